@@ -8,7 +8,7 @@ use lib.ListN.{length, getD}
 use Rattle.jobs.specs.declared.Job.{Job}
 use Rattle.jobs.specs.Fields.{work-of, output-of}
 use Rattle.intake.specs.Faults.{Over, Offends, Above}
-use Rattle.intake.proofs.Fields.{at-read}
+use Rattle.jobs.proofs.Fields.{at-read}
 
 over-same : (w : ℕ) (x y : ℕ → ℕ) → ((k : ℕ) → x k ≡ y k) → Over w x → Over w y
 over-same w x y same (k, i, h) = (k, i, omega (arith, same k))

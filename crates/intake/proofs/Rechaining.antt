@@ -12,7 +12,7 @@ use Rattle.jobs.specs.declared.Job.{Job}
 use Rattle.trees.specs.Trees.{Next-child, Chained}
 use Rattle.intake.specs.Faults.{par-of}
 use Rattle.intake.specs.Taken.{linked, bare, Rechained, Taken}
-use Rattle.intake.proofs.Fields.{map-kept, at-same, at-other}
+use Rattle.jobs.proofs.Fields.{map-kept, at-same, at-other}
 
 module _ {S : Type 0} (first next : ℕ → ℕ) (xs : List (Job S)) where
   pub none-rechained : Rechained 0 first next xs xs

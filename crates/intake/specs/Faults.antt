@@ -4,6 +4,7 @@ use mathlib.Core.List.{List, map}
 use mathlib.Core.Logic.{_⊎_}
 use Prim.Native.Nat.{ℕ, _+_, _≤_, _<_}
 use lib.ListN.{length, take}
+use Rattle.amounts.specs.Axes.{Exceeds}
 use Rattle.refusals.specs.declared.Refusal.{Refusal}
 use Rattle.refusals.specs.declared.Refusal.the-variants.{JobCount, TooManyAxes, JobBound}
 use Rattle.trees.specs.Sums.{In}
@@ -14,7 +15,7 @@ use Rattle.jobs.specs.Fields.{work-of, output-of, minutes-of}
 
 -- some axis of a row is above a million, in a kind that is w wide
 abbrev pub Over : ℕ → (ℕ → ℕ) → Type 0
-Over w row = (k : ℕ) × In w k × (1000000 < row k)
+Over w row = Exceeds w row 1000000
 
 module _ {S : Type 0} where
   -- an axis of the work or the output, or the minutes, are above their bound

@@ -4,8 +4,9 @@ ghost use Prim.Native.Nat.{ℕ, _≤_, _<_};
 ghost use lib.ListN.{length};
 ghost use Rattle.std.specs.Orderings.{When};
 ghost use Rattle.trees.specs.Found.{Lowest};
-ghost use Rattle.intake.specs.Faults.{Over, Offends, Above};
+ghost use Rattle.intake.specs.Faults.{Offends, Above};
 use amounts::Amount;
+use amounts::exceeds;
 use jobs::Job;
 
 /// The most that an axis of a job's work or output holds.
@@ -14,33 +15,16 @@ pub const AXIS_BOUND: u64 = 1_000_000;
 /// The most minutes that a job takes.
 pub const MINUTES_BOUND: u32 = 10_000;
 
-/// Whether an axis is above its bound.
-fn over<K: Amount>(amount: &K) -> bool
-    requires { ⌜ K·Amount .width ≤ 64 ⌝ }
-    ensures { λ r. ⌜ When r (Over (K·Amount .width) (K·Amount .reading (now (amount .entry)))) (Over (K·Amount .width) (K·Amount .reading (now (amount .entry))) → ⊥) ⌝ }
-{
-    for k in 1..=K::count() {
-        if let Some(value) = amount.axis(k)
-            && value > AXIS_BOUND
-        {
-            return true;
-        }
-    }
-    false
-}
-
 /// Whether a job's work, output or minutes are above their bound.
 fn offends<K: Amount>(job: &Job<K>) -> bool
-    requires { ⌜ K·Amount .width ≤ 64 ⌝ }
     ensures { λ r. ⌜ When r (Offends (K·Amount .width) (K·Amount .reading) (now (job .entry))) (Offends (K·Amount .width) (K·Amount .reading) (now (job .entry)) → ⊥) ⌝ }
 {
-    over(&job.work) || over(&job.output) || job.minutes > MINUTES_BOUND
+    exceeds(&job.work, AXIS_BOUND) || exceeds(&job.output, AXIS_BOUND) || job.minutes > MINUTES_BOUND
 }
 
 /// The lowest of the jobs 1 to `n` that is above a bound.
 pub(crate) fn lowest_offender<K: Amount>(jobs: &[Job<K>], n: usize) -> Option<usize>
-    requires axes { ⌜ K·Amount .width ≤ 64 ⌝ }
-    requires room { ⌜ n < length (now jobs) ⌝ }
+    requires { ⌜ n < length (now jobs) ⌝ }
     ensures { λ r. ⌜ Lowest n (Above (K·Amount .width) (K·Amount .reading) (now (jobs .entry))) r ⌝ }
 {
     for (i, job) in jobs.iter().enumerate() {

@@ -4,7 +4,7 @@ use native.Mathlib.Omega.{arith}
 use Prim.Native.Nat.{ℕ, _+_, _<_}
 use lib.ListN.{length, getD, take, drop}
 use Rattle.std.proofs.shelf.Lists.{take-more, take-more-set, drop-set-lt, length-map}
-use Rattle.intake.proofs.Fields.{at-place}
+use Rattle.jobs.proofs.Fields.{at-place}
 use Rattle.intake.proofs.chain.copy_parents.Needs as need
 
 pub loop-i-again : need.loop-i-again

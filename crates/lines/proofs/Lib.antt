@@ -1,0 +1,10 @@
+pub mod Sums
+pub mod Upward
+pub mod Places
+pub mod Walk
+pub mod Written
+pub mod Earliest
+pub mod Refused
+pub mod Subtrees
+pub mod Spans
+pub mod Gathered

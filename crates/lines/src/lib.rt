@@ -1,0 +1,8 @@
+//! Lines of a tree of jobs: the check of one, the plain one, and whether subtrees stand together.
+mod apart;
+mod check;
+mod plain;
+
+pub use apart::lowest_apart;
+pub use check::positions;
+pub use plain::plain_line;

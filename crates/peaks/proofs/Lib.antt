@@ -1,0 +1,4 @@
+pub mod Bounded
+pub mod Firsts
+pub mod Gathering
+pub mod Passing

@@ -18,12 +18,11 @@ pub use heading::Rule;
 use jobs::Job;
 use reader::Reader;
 use refusals::Refusal;
+use trees::MOST_JOBS;
 
 const MOST_AXES: u32 = 64;
 
 const MOST_BYTES: usize = 65_536;
-
-const MOST_JOBS: usize = 4095;
 
 /// Reads a whole text, and counts its jobs.
 fn scan<K: Amount>(text: &[u8]) -> Result<usize, Refusal>
@@ -63,6 +62,11 @@ fn fill<K: Amount>(text: &[u8], records: &mut [Job<K>]) -> Result<Heading<K>, Re
 }
 
 /// Reads the text of a run into the records from 1 on, and tells its heading.
+///
+/// The first line is `hall`, the rule's letter, the benches and the floor; each line after it is
+/// `job`, the parent, the work, the output and the minutes. One space stands between two fields, a
+/// slash between two axes of an amount, and byte 10 ends each line. Numbers are decimal, with no
+/// leading zero. A refusal leaves the records as they were.
 pub fn read<K: Amount>(text: &[u8], records: &mut [Job<K>]) -> Result<Heading<K>, Refusal>
     ensures told { λ r. ⌜ Cases r (λ h. Granted (K·Amount .reading) (K·Amount .width) (now (text .entry)) (now (records .entry)) (now (records .exit)) h) (λ e. Said (K·Amount .width) (now (text .entry)) (length (now (records .entry))) e × (now (records .exit) ≡ now (records .entry))) ⌝ }
     ensures complete { λ r. ⌜ ((run : Run) → Good (K·Amount .width) (now (text .entry)) (length (now (records .entry))) run → isOk r ≡ true) ⌝ }

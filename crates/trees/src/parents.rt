@@ -37,9 +37,9 @@ pub fn check_parents(parents: &[u32]) -> Result<usize, Refusal>
 fn lowest_missing(parents: &[u32]) -> Option<usize>
     ensures { λ r. ⌜ Lowest (jobs-in (now (parents .entry))) (λ k. jobs-in (now (parents .entry)) < par-in (now (parents .entry)) k) r ⌝ }
 {
-    for job in 1..parents.len() {
-        if parents[job] as usize >= parents.len() {
-            return Some(job);
+    for child in 1..parents.len() {
+        if parents[child] as usize >= parents.len() {
+            return Some(child);
         }
     }
     None

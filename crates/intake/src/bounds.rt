@@ -19,7 +19,9 @@ pub const MINUTES_BOUND: u32 = 10_000;
 fn offends<K: Amount>(job: &Job<K>) -> bool
     ensures { λ r. ⌜ When r (Offends (K·Amount .width) (K·Amount .reading) (now (job .entry))) (Offends (K·Amount .width) (K·Amount .reading) (now (job .entry)) → ⊥) ⌝ }
 {
-    exceeds(&job.work, AXIS_BOUND) || exceeds(&job.output, AXIS_BOUND) || job.minutes > MINUTES_BOUND
+    exceeds(&job.work, AXIS_BOUND)
+        || exceeds(&job.output, AXIS_BOUND)
+        || job.minutes > MINUTES_BOUND
 }
 
 /// The lowest of the jobs 1 to `n` that is above a bound.

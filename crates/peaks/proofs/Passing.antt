@@ -40,16 +40,16 @@ module _ {S : Type 0} (w : ℕ) (read : S → ℕ → ℕ) (kind : Reads w read)
       passable =
           record {
             fits = λ k.
-              omega (
-                arith,
-                lefts k,
-                left-most n (par-of xs n) row (work-of read xs k) (output-of read xs k) p,
-                outputs-most w read kind xs n sound k,
-                work-most w read kind xs n sound k (entry row p) job-in,
-                output-most w read kind xs n sound k (entry row p) job-in,
-                work-is k,
-                output-is k,
-              );
+                omega (
+                  arith,
+                  lefts k,
+                  left-most n (par-of xs n) row (work-of read xs k) (output-of read xs k) p,
+                  outputs-most w read kind xs n sound k,
+                  work-most w read kind xs n sound k (entry row p) job-in,
+                  output-most w read kind xs n sound k (entry row p) job-in,
+                  work-is k,
+                  output-is k,
+                );
             covers = λ k. omega (arith, lefts k, gives k, next k, output-is k);
           }
 

@@ -11,7 +11,13 @@ use amounts::Amount;
 use jobs::Job;
 
 /// The inputs of job `i`: the sum of the outputs of its children, along their chain.
-pub(crate) fn inputs_of<K: Amount>(jobs: &[Job<K>], n: usize, first: &[u32], next: &[u32], i: usize) -> K
+pub(crate) fn inputs_of<K: Amount>(
+    jobs: &[Job<K>],
+    n: usize,
+    first: &[u32],
+    next: &[u32],
+    i: usize,
+) -> K
     requires sound { ⌜ Sound (K·Amount .width) (K·Amount .reading) (now jobs) n ⌝ }
     requires chained { ⌜ Chained n (par-of (now jobs) n) (λ k. getD (now first) k 0) (λ k. getD (now next) k 0) ⌝ }
     requires room { ⌜ n < length (now first) ⌝ ∗ ⌜ n < length (now next) ⌝ }

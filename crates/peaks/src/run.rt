@@ -25,7 +25,12 @@ fn footing_of<K: Amount>(jobs: &[Job<K>], n: usize, line: &[u32]) -> Result<Chai
 }
 
 /// What stands at a position of the line of the jobs 1 to `n`; none where there is no such position.
-pub fn standing<K: Amount>(jobs: &[Job<K>], n: usize, line: &[u32], position: usize) -> Result<Option<K>, Refusal>
+pub fn standing<K: Amount>(
+    jobs: &[Job<K>],
+    n: usize,
+    line: &[u32],
+    position: usize,
+) -> Result<Option<K>, Refusal>
     ensures { λ r. ⌜ Judged (RunFault (K·Amount .width) (K·Amount .reading) (now (jobs .entry)) n (now (line .entry))) (Standing (K·Amount .reading) (now (jobs .entry)) n (now (line .entry)) position) r ⌝ }
 {
     let chains = footing_of(jobs, n, line)?;
@@ -37,7 +42,15 @@ pub fn standing<K: Amount>(jobs: &[Job<K>], n: usize, line: &[u32], position: us
         let (_stands, leaves) = step(jobs, n, line, &chains.first, &chains.next, p, &before);
         before = leaves;
     }
-    let (stands, _leaves) = step(jobs, n, line, &chains.first, &chains.next, position, &before);
+    let (stands, _leaves) = step(
+        jobs,
+        n,
+        line,
+        &chains.first,
+        &chains.next,
+        position,
+        &before,
+    );
     Ok(Some(stands))
 }
 
@@ -57,7 +70,12 @@ pub fn peak<K: Amount>(jobs: &[Job<K>], n: usize, line: &[u32]) -> Result<K, Ref
 }
 
 /// The first position of the line of the jobs 1 to `n` at which what stands does not fit the floor.
-pub fn first_over<K: Amount>(jobs: &[Job<K>], n: usize, line: &[u32], floor: &K) -> Result<Option<usize>, Refusal>
+pub fn first_over<K: Amount>(
+    jobs: &[Job<K>],
+    n: usize,
+    line: &[u32],
+    floor: &K,
+) -> Result<Option<usize>, Refusal>
     ensures { λ r. ⌜ Judged (RunFault (K·Amount .width) (K·Amount .reading) (now (jobs .entry)) n (now (line .entry))) (Lowest n (Over (K·Amount .reading) (now (jobs .entry)) n (now (line .entry)) (now (floor .entry)))) r ⌝ }
 {
     let chains = footing_of(jobs, n, line)?;

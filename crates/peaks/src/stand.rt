@@ -26,7 +26,15 @@ fn pass<K: Amount>(job: &Job<K>, before: &K, given: &K) -> (K, K)
 }
 
 /// What stands at position `p`, from what the jobs before it left; and what is left after it.
-pub(crate) fn step<K: Amount>(jobs: &[Job<K>], n: usize, line: &[u32], first: &[u32], next: &[u32], p: usize, before: &K) -> (K, K)
+pub(crate) fn step<K: Amount>(
+    jobs: &[Job<K>],
+    n: usize,
+    line: &[u32],
+    first: &[u32],
+    next: &[u32],
+    p: usize,
+    before: &K,
+) -> (K, K)
     requires sound { ⌜ Sound (K·Amount .width) (K·Amount .reading) (now jobs) n ⌝ }
     requires lined { ⌜ Line n (par-of (now jobs) n) (now line) ⌝ }
     requires chained { ⌜ Chained n (par-of (now jobs) n) (λ k. getD (now first) k 0) (λ k. getD (now next) k 0) ⌝ }

@@ -20,7 +20,7 @@ pub struct Reader<'a> {
 
 impl<'a> Reader<'a> {
     /// At the beginning.
-    pub fn new(bytes: &'a [u8]) -> Self
+    pub(crate) fn new(bytes: &'a [u8]) -> Self
         requires { ⌜ length (now bytes) ≤ 65536 ⌝ }
         ensures { λ r. ⌜ r .pos ≡ 0 ⌝ ∗ ⌜ now (r .bytes) ≡ now (bytes .entry) ⌝ }
     {

@@ -23,7 +23,10 @@ fn places(amount: &Places) -> u64
 }
 
 /// The line that tells the answer, in places.
-pub fn answer_line(heap: Global, answer: &Result<Fit<Places>, Refusal>) -> Result<String, AllocError>
+pub fn answer_line(
+    heap: Global,
+    answer: &Result<Fit<Places>, Refusal>,
+) -> Result<String, AllocError>
     ensures { λ r. ⌜ made r (λ s. string-bytes s ≡ line-of (now (answer .entry))) ⌝ }
 {
     match answer {
@@ -31,7 +34,10 @@ pub fn answer_line(heap: Global, answer: &Result<Fit<Places>, Refusal>) -> Resul
             let jobs = fit.jobs;
             let peak = places(&fit.peak);
             let floor = places(&fit.floor);
-            format!(heap, "checked {jobs} jobs: peak {peak} fits floor {floor}\n")
+            format!(
+                heap,
+                "checked {jobs} jobs: peak {peak} fits floor {floor}\n"
+            )
         }
         Err(refusal) => {
             let layer = refusal.layer();

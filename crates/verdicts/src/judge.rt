@@ -35,7 +35,10 @@ fn judge<K: Amount>(text: &[u8], records: &mut [Job<K>]) -> Result<Fit<K>, Refus
 }
 
 /// Whether a hall can carry the run of a text.
-pub fn check_text<K: Amount>(heap: Global, text: &[u8]) -> Result<Result<Fit<K>, Refusal>, AllocError>
+pub fn check_text<K: Amount>(
+    heap: Global,
+    text: &[u8],
+) -> Result<Result<Fit<K>, Refusal>, AllocError>
     ensures { λ r. ⌜ made r (Answered (K·Amount .width) (K·Amount .reading) 4096 (now (text .entry))) ⌝ }
 {
     let blank: Job<K> = Job::new(0, K::zero(), K::zero(), 0);

@@ -49,7 +49,7 @@ impl Reader<'_> {
     }
 
     /// Whether the text goes on.
-    pub fn more(&self) -> bool
+    pub(crate) fn more(&self) -> bool
         ensures { λ r. ⌜ r ≡ ltb (now (self .entry) .pos) (length (now (now (self .entry) .bytes))) ⌝ }
     {
         self.pos < self.bytes.len()
@@ -189,7 +189,7 @@ impl Reader<'_> {
     }
 
     /// A job's line.
-    pub fn job<K: Amount>(&mut self) -> Result<Job<K>, Refusal>
+    pub(crate) fn job<K: Amount>(&mut self) -> Result<Job<K>, Refusal>
         requires { ⌜ K·Amount .width ≤ 64 ⌝ }
         ensures same { λ _. ⌜ now (self .exit) .bytes ≡ now (self .entry) .bytes ⌝ }
         ensures reads { λ r. ⌜ Reads (now (now (self .entry) .bytes)) (now (self .entry) .pos) (now (self .exit) .pos) (job-parts (K·Amount .width)) Any (λ j. lines (line-of (K·Amount .reading) (K·Amount .width) j ∷ [])) r ⌝ }
@@ -206,7 +206,7 @@ impl Reader<'_> {
     }
 
     /// The first line, with no job counted yet.
-    pub fn heading<K: Amount>(&mut self) -> Result<Heading<K>, Refusal>
+    pub(crate) fn heading<K: Amount>(&mut self) -> Result<Heading<K>, Refusal>
         requires { ⌜ K·Amount .width ≤ 64 ⌝ }
         ensures same { λ _. ⌜ now (self .exit) .bytes ≡ now (self .entry) .bytes ⌝ }
         ensures reads { λ r. ⌜ Reads (now (now (self .entry) .bytes)) (now (self .entry) .pos) (now (self .exit) .pos) (heading-parts (K·Amount .width)) Any (λ h. text-of (run-of (K·Amount .reading) (K·Amount .width) h [])) r ⌝ }

@@ -35,7 +35,7 @@ returns-then-benches-eq0 g c =
       row = take (c .args .n) (c .in-Continue-line .line);
       plain = λ _. good .1;
       judged = first-benches (g .K·Amount .width) (g .K·Amount .reading) (c .args .jobs .now) (c .args .n) (c .args .benches) (c .args .floor .now) _ (good .0)
-        (elim (c .then-benches-eq0 .either) [ inl h ↦ inl h | inr h ↦ inr (h .1) ]);
+          (elim (c .then-benches-eq0 .either) [ inl h ↦ inl h | inr h ↦ inr (h .1) ]);
     }
 
 pub returns-then-exceeds : need.returns-then-exceeds
@@ -45,7 +45,7 @@ returns-then-exceeds g c =
       row = take (c .args .n) (c .in-Continue-line .line);
       plain = λ _. good .1;
       judged = first-floor (g .K·Amount .width) (g .K·Amount .reading) (c .args .jobs .now) (c .args .n) (c .args .benches) (c .args .floor .now) _ (good .0)
-        (benched (c .args .benches) (c .if-benches-eq0 .left) (c .if-benches-gt-MOST-BENCHES .left)) (c .if-exceeds .ensures tt);
+          (benched (c .args .benches) (c .if-benches-eq0 .left) (c .if-benches-gt-MOST-BENCHES .left)) (c .if-exceeds .ensures tt);
     }
 
 -- the line was made here
@@ -66,7 +66,7 @@ returns-in-Some g c =
       row = row;
       plain = λ _. line;
       judged = first-exceeded (g .K·Amount .width) (g .K·Amount .reading) (c .args .jobs .now) n (c .args .benches) (c .args .floor .now) row (good .0)
-        (benched (c .args .benches) (c .if-benches-eq0 .left) (c .if-benches-gt-MOST-BENCHES .left)) (c .if-exceeds .ensures tt) (c .in-Some .position) (found .2) (found .0) (found .1);
+          (benched (c .args .benches) (c .if-benches-eq0 .left) (c .if-benches-gt-MOST-BENCHES .left)) (c .if-exceeds .ensures tt) (c .in-Some .position) (found .2) (found .0) (found .1);
     }
 
 pub returns : need.returns
@@ -79,6 +79,6 @@ returns g c =
       row = row;
       plain = λ _. line;
       judged = peak-told (g .K·Amount .width) (g .K·Amount .reading) (c .args .jobs .now) n (c .args .benches) (c .args .floor .now) row (good .0)
-        (benched (c .args .benches) (c .if-benches-eq0 .left) (c .if-benches-gt-MOST-BENCHES .left)) (c .if-exceeds .ensures tt)
-        (cases-at-none _ _ (c .in-rest .is) (c .in-Continue-position .ensures tt .1)) line (c .peak .result) (c .peak .ensures);
+          (benched (c .args .benches) (c .if-benches-eq0 .left) (c .if-benches-gt-MOST-BENCHES .left)) (c .if-exceeds .ensures tt)
+          (cases-at-none _ _ (c .in-rest .is) (c .in-Continue-position .ensures tt .1)) line (c .peak .result) (c .peak .ensures);
     }

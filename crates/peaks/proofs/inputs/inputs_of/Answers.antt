@@ -74,13 +74,13 @@ loop-child-again g c =
     let inside : child < length jobs = omega (arith, own, c .pre .sound .records) in
     let next = subst (λ v. Next-child n par v child (getD (c .args .next .now) child 0)) (own .1) (c .pre .chained .nexts child (own .0)) in (
       λ a.
-        omega (
-          arith,
-          c .plus-total .ensures a,
-          c .loop-child .inv .0 a,
-          at-read (λ j. read (j .output) a) jobs child (c .index-jobs-child .result) inside (c .index-jobs-child .is),
-          before-next n par (output-of read jobs a) i child (getD (c .args .next .now) child 0) (c .loop-child-test .taken) (own .0) (own .1) next,
-        ),
+          omega (
+            arith,
+            c .plus-total .ensures a,
+            c .loop-child .inv .0 a,
+            at-read (λ j. read (j .output) a) jobs child (c .index-jobs-child .result) inside (c .index-jobs-child .is),
+            before-next n par (output-of read jobs a) i child (getD (c .args .next .now) child 0) (c .loop-child-test .taken) (own .0) (own .1) next,
+          ),
       next-is-child n par i child _ next,
     )
 

@@ -23,10 +23,10 @@ loop-p-again g c =
       omega arith,
       c .step-stands .ensures .leaves,
       λ a.
-        c .greater-most .ensures a
-        ∙ ap (λ m. max m (g .K·Amount .reading (c .step-stands .result .0) a)) (c .loop-p .inv .2 a)
-        ∙ ap (max (greatest (stands a) (p - 1))) (c .step-stands .ensures .stands a)
-        ∙ sym (greatest-next (stands a) p (c .loop-p .inv .0)),
+          c .greater-most .ensures a
+          ∙ ap (λ m. max m (g .K·Amount .reading (c .step-stands .result .0) a)) (c .loop-p .inv .2 a)
+          ∙ ap (max (greatest (stands a) (p - 1))) (c .step-stands .ensures .stands a)
+          ∙ sym (greatest-next (stands a) p (c .loop-p .inv .0)),
     )
 
 pub returns : need.returns

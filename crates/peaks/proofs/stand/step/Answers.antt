@@ -29,7 +29,7 @@ returns g c =
     let kind : Reads w read = record { nothing = g .K·Amount·met .nothing; beyond = g .K·Amount·met .beyond } in
     record {
       stands = stands-next w read kind (c .args .jobs .now) (c .args .n) (c .args .line .now) (c .pre .sound) (c .pre .lined) (c .args .p) (c .pre .here) (c .index-jobs-i .result) (c .index-jobs-i .is)
-        (c .args .before .now) (c .inputs-of-given .result) (c .pre .lefts) (c .inputs-of-given .ensures) (c .pass .result .0) (c .pass .ensures .stands);
+          (c .args .before .now) (c .inputs-of-given .result) (c .pre .lefts) (c .inputs-of-given .ensures) (c .pass .result .0) (c .pass .ensures .stands);
       leaves = left-after w read kind (c .args .jobs .now) (c .args .n) (c .args .line .now) (c .pre .sound) (c .pre .lined) (c .args .p) (c .pre .here) (c .index-jobs-i .result) (c .index-jobs-i .is)
-        (c .args .before .now) (c .inputs-of-given .result) (c .pre .lefts) (c .inputs-of-given .ensures) (c .pass .result .1) (c .pass .ensures .leaves);
+          (c .args .before .now) (c .inputs-of-given .result) (c .pre .lefts) (c .inputs-of-given .ensures) (c .pass .result .1) (c .pass .ensures .leaves);
     }

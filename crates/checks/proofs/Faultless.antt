@@ -1,11 +1,11 @@
 -- A tree is refused for nothing, and a line is no refused row.
-use mathlib.Core.Path.{_≡_, sym, ap, _∙_}
+use mathlib.Core.Path.{_≡_, ap, _∙_}
 use mathlib.Core.List.{List}
 use mathlib.Core.Logic.{_⊎_, inl, inr}
-use Prim.Native.Nat.{ℕ, _+_, _≤_, _<_}
+use Prim.Native.Nat.{ℕ, _≤_, _<_}
 use native.Mathlib.Omega.{arith}
 use Rattle.refusals.specs.declared.Refusal.{Refusal}
-use Rattle.trees.specs.Lines.{entry, place, Line}
+use Rattle.trees.specs.Lines.{place, Line}
 use Rattle.trees.specs.Faults.{Parent-fault, Row-fault}
 use Rattle.trees.specs.Faults.Parent-fault.{count, missing, rootless, second, unreached}
 use Rattle.trees.specs.Faults.Row-fault.{unfit, longer, early}

@@ -16,16 +16,17 @@ use Rattle.intake.specs.Taken.{Sound}
 use Rattle.peaks.specs.Stood.{Peak, Over}
 
 module _ {S : Type 0} (w : ℕ) (read : S → ℕ → ℕ) (xs : List (Job S)) (n benches : ℕ) (floor : S) where
-  -- what a run with this line can be refused for
-  pub data Hall-fault (row : List ℕ) : Refusal → Type 0 where
-    untreed : {e : Refusal} → Tree-fault w read xs n e → Hall-fault row e
-    unbenched : (benches ≡ 0) ⊎ (64 < benches) → Hall-fault row Benches
-    unfloored : Exceeds w (read floor) 1000000000 → Hall-fault row Floor
-    exceeded : (p : ℕ) → In n p → Over read xs n row floor p → Hall-fault row (FloorExceeded p)
+  -- what a hall with such benches and such a floor refuses a run for
+  pub data Hall-fault : Refusal → Type 0 where
+    untreed : {e : Refusal} → Tree-fault w read xs n e → Hall-fault e
+    unbenched : (benches ≡ 0) ⊎ (64 < benches) → Hall-fault Benches
+    unfloored : Exceeds w (read floor) 1000000000 → Hall-fault Floor
+    exceeded : (row : List ℕ) (p : ℕ) → Plain n (par-of xs n) row → In n p → Over read xs n row floor p → Hall-fault (FloorExceeded p)
 
-  -- The answer is that of the plain line: its peak where nothing is to be refused, else the first refusal. Where the records are
-  -- those of no tree there is no plain line, and none is looked at.
-  pub record Carried (r : Result S Refusal) : Type 0 where
-    pub row : List ℕ
-    pub plain : Sound w read xs n → Plain n (par-of xs n) row
-    pub judged : Judged (Hall-fault row) (Peak read xs n row) r
+  -- x is the peak of the plain line
+  abbrev pub Plain-peak : S → Type 0
+  Plain-peak x = (row : List ℕ) → Plain n (par-of xs n) row → Peak read xs n row x
+
+  -- the peak of the plain line where nothing is to be refused, else the first refusal
+  abbrev pub Carried : Result S Refusal → Type 0
+  Carried = Judged Hall-fault Plain-peak

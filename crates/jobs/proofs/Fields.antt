@@ -1,13 +1,10 @@
 -- A field of a row's records, read and after a write.
-use mathlib.Core.Path.{_≡_, refl, sym, ap, _∙_}
-use mathlib.Core.Bool.{Bool, true, false, cond}
+use mathlib.Core.Path.{_≡_, sym, ap, _∙_}
 use mathlib.Core.List.{List, map}
-use mathlib.Core.Logic.{_⊎_, inl, inr}
-use Prim.Native.Nat.{ℕ, zero, suc, _+_, _-_, _≤_, _<_}
+use Prim.Native.Nat.{ℕ, _-_, _<_}
 use native.Mathlib.Omega.{arith}
 use lib.ListN.{length, getD, set}
 use Rattle.std.proofs.shelf.Lists.{map-set, set-getD, getD-map, getD-set-same, getD-set-other, length-map}
-use Rattle.std.proofs.shelf.Tests.{cases-eq}
 use Rattle.jobs.specs.Fields.{at}
 
 -- an element is written over by one that h does not tell from it

@@ -8,3 +8,4 @@ pub mod Refused
 pub mod Subtrees
 pub mod Spans
 pub mod Gathered
+pub mod Unique

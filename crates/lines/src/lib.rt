@@ -5,4 +5,5 @@ mod plain;
 
 pub use apart::lowest_apart;
 pub use check::positions;
+pub use plain::one_plain_line;
 pub use plain::plain_line;

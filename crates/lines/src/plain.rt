@@ -7,6 +7,7 @@ ghost use Rattle.trees.specs.Found.{jobs-in, par-in};
 ghost use Rattle.trees.specs.Lines.{Plain};
 ghost use Rattle.trees.specs.Trees.{Tree, Chained-whole as ChainedWhole};
 ghost use Rattle.lines.specs.Faults.{Room-fault as RoomFault};
+ghost use Rattle.lines.specs.Unique.{One-plain as OnePlain};
 use refusals::Refusal;
 use trees::chains_of;
 use trees::check_parents;
@@ -56,4 +57,11 @@ fn write_line(parents: &[u32], first: &[u32], next: &[u32], row: &mut [u32])
             };
         }
     }
+}
+
+/// A tree has one plain line only.
+pub fn one_plain_line() -> bool
+    ensures { λ _. ⌜ OnePlain ⌝ }
+{
+    true
 }

@@ -1,18 +1,16 @@
 -- No axis of a sound tree's amounts is above its bound, so no sum of them passes the limit.
-use mathlib.Core.Path.{_≡_, sym, ap, _∙_}
+use mathlib.Core.Path.{_≡_, ap, _∙_}
 use mathlib.Core.List.{List, [], _∷_}
-use mathlib.Core.Logic.{_⊎_, inl, inr}
-use Prim.Native.Nat.{ℕ, zero, suc, _+_, _*_, _≤_, _<_}
+use mathlib.Core.Logic.{inl, inr}
+use Prim.Native.Nat.{ℕ, zero, suc, _≤_, _<_}
 use Rattle.std.proofs.shelf.Lists.{getD-past}
 use native.Mathlib.Omega.{arith}
-use lib.ListN.{length, getD}
 use Rattle.std.proofs.shelf.Tests.{cases-lt}
 use Rattle.amounts.specs.Axes.{Seen}
 use Rattle.trees.specs.Sums.{In, sum}
 use Rattle.trees.proofs.Sums.{sum-most}
 use Rattle.jobs.specs.declared.Job.{Job}
 use Rattle.jobs.specs.Fields.{at, work-of, output-of}
-use Rattle.intake.specs.Faults.{Above}
 use Rattle.intake.specs.Taken.{Sound}
 
 -- a kind reads 0 at 0 and past its width

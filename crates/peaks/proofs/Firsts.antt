@@ -1,7 +1,7 @@
 -- The first refusal of records with a row, from those of the records and of the row.
 use mathlib.Core.List.{List}
-use mathlib.Core.Logic.{_⊎_, inl, inr}
-use Prim.Native.Nat.{ℕ, _≤_, _<_}
+use mathlib.Core.Logic.{inl}
+use Prim.Native.Nat.{ℕ, _<_}
 use native.Mathlib.Omega.{arith}
 use lib.Dec.{lit<}
 use lib.ListN.{getD}
@@ -13,7 +13,7 @@ use Rattle.refusals.specs.declared.Refusal.{Refusal}
 use Rattle.trees.specs.declared.chains.Chains.{Chains}
 use Rattle.trees.specs.Trees.{Chained-whole}
 use Rattle.trees.specs.Lines.{Line}
-use Rattle.trees.specs.Faults.{Parent-fault, Row-fault}
+use Rattle.trees.specs.Faults.{Parent-fault}
 use Rattle.trees.proofs.Numbers.{tree-number, row-number}
 use Rattle.lines.specs.Faults.{Line-fault}
 use Rattle.lines.specs.Faults.Line-fault.{untreed as of-tree, unlined as of-row}

@@ -1,17 +1,15 @@
 -- What stands in the hall from position to position of a line, on one axis.
-use mathlib.Core.Path.{_≡_, refl, sym, ap, subst, _∙_}
-use mathlib.Core.Bool.{Bool, true, false, cond, _&&_, not}
+use mathlib.Core.Path.{_≡_, sym, ap, _∙_}
+use mathlib.Core.Bool.{_&&_, not}
 use mathlib.Core.List.{List}
-use mathlib.Core.Logic.{_⊎_, inl, inr}
-use Prim.Native.Nat.{ℕ, zero, suc, _+_, _-_, _*_, _≤_, _<_}
+use Prim.Native.Nat.{ℕ, _+_, _-_, _≤_}
 use native.Mathlib.Omega.{arith}
 use lib.Dec.{eqb, ltb}
-use Rattle.std.proofs.shelf.Tests.{cases-eq}
 use Rattle.std.proofs.shelf.Ways.{tells}
 use Rattle.trees.specs.Sums.{In, sum, only}
 use Rattle.trees.specs.Trees.{kids}
 use Rattle.trees.specs.Lines.{entry, place, Line}
-use Rattle.trees.specs.Standing.{left-at, standing}
+use Rattle.trees.specs.Standing.{left-at}
 use Rattle.trees.proofs.Sums.{sum-le, sum-eq, sum-zero, sum-add, sum-one}
 use Rattle.trees.proofs.Places.{place-low, place-entry, line-place}
 

@@ -1,9 +1,9 @@
 -- Walks up a tree, and the marks that they leave.
 use mathlib.Core.Path.{_≡_, refl, sym, ap, subst, _∙_}
-use mathlib.Core.Bool.{Bool, true, false, cond, not}
+use mathlib.Core.Bool.{cond, not}
 use mathlib.Core.List.{List}
 use mathlib.Core.Logic.{_⊎_, inl, inr}
-use Prim.Native.Nat.{ℕ, zero, suc, _+_, _-_, _≤_, _<_}
+use Prim.Native.Nat.{ℕ, _+_, _-_, _≤_, _<_}
 use native.Mathlib.Omega.{arith}
 use lib.Dec.{eqb}
 use lib.ListN.{length, getD, set, replicate}
@@ -12,7 +12,6 @@ use Rattle.std.proofs.shelf.Lists.{getD-set-same, getD-set-other, length-set, g
 use Rattle.std.specs.Orderings.{When}
 use Rattle.std.proofs.shelf.Sums.{sumBy-set}
 use Rattle.std.proofs.shelf.Tests.{cases-eq, cases-lt, eq-eqb, ne-eqb}
-use Rattle.trees.specs.Sums.{In}
 use Rattle.trees.specs.Trees.{Reaches}
 use Rattle.trees.specs.Trees.Reaches.{root, above}
 use Rattle.trees.specs.Marks.{Marked}

@@ -1,6 +1,6 @@
 -- Trees of the jobs 1 to n by a function `par` from each job to its parent, 0 for the root.
 use mathlib.Core.Path.{_≡_}
-use mathlib.Core.Bool.{Bool, true, false, _&&_, _||_, not}
+use mathlib.Core.Bool.{Bool, false, _&&_, _||_, not}
 use Prim.Native.Nat.{ℕ, zero, suc, _≤_, _<_}
 use lib.Dec.{eqb}
 use Rattle.trees.specs.Sums.{In, sum, only}

@@ -1,5 +1,4 @@
 -- What is answered to a text.
-use mathlib.Core.Path.{_≡_}
 use mathlib.Core.List.{List, map}
 use Prim.Native.Nat.{ℕ}
 use lib.ListN.{take, drop}

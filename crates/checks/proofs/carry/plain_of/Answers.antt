@@ -1,14 +1,10 @@
-use mathlib.Core.Path.{_≡_, sym, ap, subst, _∙_}
-use native.Mathlib.Nat.{sub-zero}
 use native.Mathlib.Omega.{arith}
-use Prim.Native.Nat.{ℕ, _+_}
 use lib.ListN.{take}
 use Rattle.refusals.specs.Judged.{First}
 use Rattle.std.proofs.shelf.Results.{err-from-errBy}
 use Rattle.trees.specs.Lines.{Plain}
 use Rattle.lines.specs.Faults.{Room-fault}
-use Rattle.intake.proofs.Rows.{by-row, jobs-in-row}
-use Rattle.intake.specs.Faults.{parent-row, par-of}
+use Rattle.intake.proofs.Rows.{by-slice}
 use Rattle.checks.proofs.Faultless.{room-faultless}
 use Rattle.checks.proofs.carry.plain_of.Needs as need
 
@@ -21,9 +17,8 @@ returns-in-Break-plain-line g c =
     let jobs = c .args .jobs .now in
     let n = c .args .n in
     let good = c .in-Continue-parents .ensures tt in
-    let row = ap (λ m. take m (c .in-Continue-parents .parents)) (sub-zero (n + 1)) ∙ good .1 .1 in
     let e = c .in-Break-plain-line .field-0 .0 in
-    let f = by-row jobs n (good .1 .0 .records) (λ m par. First (Room-fault m par 4096) e) _ row (c .in-Break-plain-line .ensures tt .judged) in
+    let f = by-slice jobs n (good .1 .0 .records) (λ m par. First (Room-fault m par 4096) e) (c .in-Continue-parents .parents) (good .1 .1) (c .in-Break-plain-line .ensures tt .judged) in
     absurd (room-faultless (good .1 .0) 4096 (omega (arith, good .1 .0 .few)) (f .deserved))
 
 pub returns : need.returns
@@ -31,5 +26,4 @@ returns g c =
     let jobs = c .args .jobs .now in
     let n = c .args .n in
     let good = c .in-Continue-parents .ensures tt in
-    let row = ap (λ m. take m (c .in-Continue-parents .parents)) (sub-zero (n + 1)) ∙ good .1 .1 in
-    (good .0, (good .1 .0, by-row jobs n (good .1 .0 .records) (λ m par. Plain m par (take m (c .plain-line .last .row))) _ row (c .in-Continue-plain-line .ensures tt .judged .1)))
+    (good .0, (good .1 .0, by-slice jobs n (good .1 .0 .records) (λ m par. Plain m par (take m (c .plain-line .last .row))) (c .in-Continue-parents .parents) (good .1 .1) (c .in-Continue-plain-line .ensures tt .judged .1)))

@@ -1,7 +1,6 @@
-use mathlib.Core.Path.{_≡_, subst}
+use mathlib.Core.Path.{subst}
 use mathlib.Core.Logic.{inl, inr}
 use native.Mathlib.Omega.{arith}
-use Prim.Native.Nat.{_<_}
 use Rattle.std.proofs.shelf.Tests.{cases-eq}
 use Rattle.intake.specs.Faults.{Above}
 use Rattle.intake.proofs.Above.{above-here, offends-here}

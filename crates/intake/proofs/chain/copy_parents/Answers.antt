@@ -1,8 +1,8 @@
 use mathlib.Core.Path.{_≡_, sym, ap, subst, _∙_}
-use mathlib.Core.List.{List, [], _∷_, _++_, map}
+use mathlib.Core.List.{[], _∷_, _++_, map}
 use native.Mathlib.Omega.{arith}
-use Prim.Native.Nat.{ℕ, _+_, _<_}
-use lib.ListN.{length, getD, take, drop}
+use Prim.Native.Nat.{_+_, _<_}
+use lib.ListN.{length, getD, take}
 use Rattle.std.proofs.shelf.Lists.{take-more, take-more-set, drop-set-lt, length-map}
 use Rattle.jobs.proofs.Fields.{at-place}
 use Rattle.intake.proofs.chain.copy_parents.Needs as need

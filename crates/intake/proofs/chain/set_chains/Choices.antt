@@ -1,6 +1,4 @@
-use mathlib.Core.Path.{_≡_}
-use mathlib.Core.List.{map}
-use Prim.Native.Nat.{ℕ, _-_, _≤_}
+use Prim.Native.Nat.{_-_, _≤_}
 use lib.ListN.{getD}
 use Rattle.intake.specs.Taken.{Rechained}
 use Rattle.intake.proofs.chain.set_chains.Given as given

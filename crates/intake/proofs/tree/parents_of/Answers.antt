@@ -1,15 +1,13 @@
-use mathlib.Core.Path.{_≡_, sym, ap, subst, _∙_}
-use mathlib.Core.Logic.{_⊎_, inl, inr}
+use mathlib.Core.Logic.{inl, inr}
 use native.Mathlib.Omega.{arith}
 use Prim.Native.Nat.{_<_, _≤_, _+_}
-use native.Mathlib.Nat.{sub-zero}
-use lib.ListN.{length, take}
+use lib.ListN.{length}
 use Rattle.refusals.specs.Judged.{First}
 use Rattle.refusals.specs.declared.Refusal.{Refusal}
 use Rattle.trees.specs.Trees.{Tree}
 use Rattle.trees.specs.Faults.{Parent-fault}
 use Rattle.std.proofs.shelf.Results.{err-from-errBy}
-use Rattle.intake.proofs.Rows.{by-row, past-zero}
+use Rattle.intake.proofs.Rows.{by-slice, past-zero}
 use Rattle.intake.proofs.Firsts.{first-count, first-axes, first-bound, first-parents, no-fault}
 use Rattle.intake.proofs.tree.parents_of.Needs as need
 
@@ -38,10 +36,9 @@ returns-in-Break-check-parents g c =
     let jobs = c .args .jobs .now in
     let n = c .args .n in
     let room : n < length jobs = omega arith in
-    let row = ap (λ m. take m (c .copy-parents .last .parents)) (sub-zero (n + 1)) ∙ c .copy-parents .ensures .copied in
     let e = c .in-Break-check-parents .field-0 .0 in
     rw (p .1, p .2) (first-parents (g .K·Amount .width) (g .K·Amount .reading) jobs n (omega arith) (omega arith) room (omega (arith, c .count .ensures)) (c .in-rest .ensures tt) e
-    (by-row jobs n room (λ m par. First (Parent-fault m par) e) _ row (c .in-Break-check-parents .ensures tt)))
+    (by-slice jobs n room (λ m par. First (Parent-fault m par) e) (c .copy-parents .last .parents) (c .copy-parents .ensures .copied) (c .in-Break-check-parents .ensures tt)))
 
 pub returns : need.returns
 returns g c =
@@ -50,11 +47,10 @@ returns g c =
     let w = g .K·Amount .width in
     let read = g .K·Amount .reading in
     let room : n < length jobs = omega arith in
-    let row = ap (λ m. take m (c .copy-parents .last .parents)) (sub-zero (n + 1)) ∙ c .copy-parents .ensures .copied in
     let good = c .in-Continue-check-parents .ensures tt in
     let narrow : w ≤ 64 = omega (arith, c .count .ensures) in
-    let none = by-row jobs n room (λ m par. (d : Refusal) → Parent-fault m par d → ⊥) _ row (good .0) in
-    let tree = by-row jobs n room Tree _ row (good .1 .3) in (
+    let none = by-slice jobs n room (λ m par. (d : Refusal) → Parent-fault m par d → ⊥) (c .copy-parents .last .parents) (c .copy-parents .ensures .copied) (good .0) in
+    let tree = by-slice jobs n room Tree (c .copy-parents .last .parents) (c .copy-parents .ensures .copied) (good .1 .3) in (
       no-fault w read jobs n (omega arith) (omega arith) room narrow (c .in-rest .ensures tt) none,
       (
         record { some = omega arith; few = omega arith; records = room; axes = narrow; bounds = c .in-rest .ensures tt; tree = tree },

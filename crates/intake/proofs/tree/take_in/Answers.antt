@@ -1,13 +1,10 @@
-use mathlib.Core.Path.{_≡_, refl, ap, _∙_}
-use native.Mathlib.Nat.{sub-zero}
-use Prim.Native.Nat.{ℕ, _+_, _<_}
-use lib.ListN.{length, getD, take}
-use Rattle.refusals.specs.Judged.{First}
+use mathlib.Core.Path.{refl}
+use lib.ListN.{getD}
 use Rattle.std.proofs.shelf.Results.{err-from-errBy}
 use Rattle.trees.specs.Trees.{Chained-whole}
 use Rattle.trees.specs.Faults.{Parent-fault}
 use Rattle.intake.specs.Faults.Tree-fault.{parents}
-use Rattle.intake.proofs.Rows.{by-row}
+use Rattle.intake.proofs.Rows.{by-slice}
 use Rattle.intake.proofs.Rechaining.{taken}
 use Rattle.intake.proofs.tree.take_in.Needs as need
 
@@ -23,8 +20,7 @@ returns-in-Break-chains g c =
     let n = c .args .n in
     let e = c .in-Break-chains .field-0 .0 in
     let good = c .in-Continue-parents .ensures tt in
-    let row = ap (λ m. take m (c .in-Continue-parents .parents)) (sub-zero (n + 1)) ∙ good .1 .1 in
-    let fault = by-row jobs n (good .1 .0 .records) (λ m par. Parent-fault m par e) _ row (c .in-Break-chains .ensures tt .deserved) in
+    let fault = by-slice jobs n (good .1 .0 .records) (λ m par. Parent-fault m par e) (c .in-Continue-parents .parents) (good .1 .1) (c .in-Break-chains .ensures tt .deserved) in
     absurd (good .0 e (parents fault))
 
 pub returns : need.returns
@@ -33,8 +29,7 @@ returns g c =
     let n = c .args .n in
     let good = c .in-Continue-parents .ensures tt in
     let chains = c .in-Continue-chains .chains in
-    let row = ap (λ m. take m (c .in-Continue-parents .parents)) (sub-zero (n + 1)) ∙ good .1 .1 in
-    let chained = by-row jobs n (good .1 .0 .records) (λ m par. Chained-whole m par (λ k. getD (chains .first) k 0) (λ k. getD (chains .next) k 0)) _ row (c .in-Continue-chains .ensures tt .1) in
+    let chained = by-slice jobs n (good .1 .0 .records) (λ m par. Chained-whole m par (λ k. getD (chains .first) k 0) (λ k. getD (chains .next) k 0)) (c .in-Continue-parents .parents) (good .1 .1) (c .in-Continue-chains .ensures tt .1) in
     record {
       told = (good .0, (good .1 .0, taken (λ k. getD (chains .first) k 0) (λ k. getD (chains .next) k 0) jobs (c .set-chains .last .jobs) n (chained .chained) (c .set-chains .ensures)));
       same = tt;

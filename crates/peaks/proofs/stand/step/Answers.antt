@@ -1,7 +1,6 @@
 use native.Mathlib.Omega.{arith}
-use borrow.Author.Needs.{needs}
 use Rattle.peaks.proofs.Bounded.{Reads}
-use Rattle.peaks.proofs.Passing.{job-in, job-record, passable, stands-next, left-after}
+use Rattle.peaks.proofs.Passing.{passable, stands-next, left-after}
 use Rattle.peaks.proofs.stand.step.Needs as need
 
 pub inputs-of-given-requires : need.inputs-of-given-requires

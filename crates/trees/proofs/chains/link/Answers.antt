@@ -1,7 +1,6 @@
-use mathlib.Core.Path.{_≡_, sym, subst}
+use mathlib.Core.Path.{_≡_, subst}
 use native.Mathlib.Omega.{arith}
-use Prim.Native.Nat.{_+_, _-_, _<_, _≤_}
-use lib.ListN.{length}
+use Prim.Native.Nat.{_+_, _-_}
 use Rattle.trees.specs.Sums.{In}
 use Rattle.trees.specs.Found.{jobs-in, par-in}
 use Rattle.trees.proofs.Links.{Linked, unlinked, linked-more, linked-all}

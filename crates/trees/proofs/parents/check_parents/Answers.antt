@@ -1,10 +1,9 @@
-use mathlib.Core.Path.{_≡_, refl, sym, ap, subst}
+use mathlib.Core.Path.{_≡_, sym, subst}
 use mathlib.Core.Logic.{_⊎_, inl, inr}
-use Prim.Native.Nat.{_<_, _≤_}
+use Prim.Native.Nat.{_<_}
 use native.Mathlib.Omega.{arith}
 use Rattle.refusals.specs.Judged.{First}
 use Rattle.refusals.specs.declared.Refusal.the-variants.{JobCount, Roots}
-use Rattle.std.proofs.shelf.Tests.{cases-eq}
 use Rattle.trees.specs.Found.{jobs-in, par-in}
 use Rattle.trees.specs.Faults.{Parent-fault}
 use Rattle.trees.proofs.Firsts.{first-count, first-missing, first-rootless, first-second, first-unreached, no-fault, a-tree}

@@ -1,10 +1,8 @@
-use mathlib.Core.Logic.{inl, inr}
 use native.Mathlib.Omega.{arith}
-use borrow.Author.Needs.{needs}
 use Prim.Native.Nat.{_<_}
 use lib.ListN.{length}
 use Rattle.trees.specs.Found.{jobs-in, par-in}
-use Rattle.trees.proofs.Walks.{walk-begins, marked-less, walk-on, walk-out, walk-met}
+use Rattle.trees.proofs.Walks.{walk-begins, marked-less, walk-on, walk-met}
 use Rattle.trees.proofs.reach.climb.Needs as need
 use Rattle.trees.proofs.reach.climb.Needs.{then-loop-at-test·else-marks-at-eq0, else-loop-at-test}
 

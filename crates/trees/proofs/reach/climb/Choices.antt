@@ -1,6 +1,3 @@
-use mathlib.Core.Path.{_≡_}
-use mathlib.Core.Logic.{_⊎_}
-use Prim.Native.Nat.{ℕ, _≤_, _<_}
 use lib.Dec.{eqb}
 use Rattle.std.specs.shelf.Lists.{countBy}
 use Rattle.trees.specs.Found.{jobs-in, par-in}

@@ -21,3 +21,8 @@ pub record First (Fault : Refusal → Type 0) (e : Refusal) : Type 0 where
 abbrev pub Judged : {T : Type 0} → (Refusal → Type 0) → (T → Type 0) → Result T Refusal → Type 0
 Judged Fault P (Ok x) = ((e : Refusal) → Fault e → ⊥) × P x
 Judged Fault P (Err e) = First Fault e
+
+-- Two refusals of which neither is told after the other are told alike in number and place. So whatever is deserved, all that are
+-- first are told alike.
+abbrev pub Order-decides : Type 0
+Order-decides = (a b : Told) → Not-after a b → Not-after b a → (a .number ≡ b .number) × (a .place ≡ b .place)

@@ -2,6 +2,7 @@
 ghost use mathlib.Core.Path.{_≡_};
 ghost use mathlib.Core.Logic.{_⊎_};
 ghost use Prim.Native.Nat.{ℕ, _<_, _≤_};
+ghost use Rattle.refusals.specs.Judged.{Order-decides as OrderDecides};
 ghost use Rattle.refusals.specs.Told.{told};
 
 /// Why a call was refused. What a case carries is told as its place; a text is told by line and
@@ -167,4 +168,11 @@ impl Refusal {
             _ => 0,
         }
     }
+}
+
+/// The order in which refusals are told leaves no choice.
+pub fn order_decides() -> bool
+    ensures { λ _. ⌜ OrderDecides ⌝ }
+{
+    true
 }

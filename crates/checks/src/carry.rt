@@ -12,13 +12,9 @@ use jobs::Job;
 use lines::plain_line;
 use peaks::first_over;
 use peaks::peak;
+use refusals::FLOOR_BOUND;
+use refusals::MOST_BENCHES;
 use refusals::Refusal;
-
-/// The most benches of a hall.
-pub const MOST_BENCHES: u32 = 64;
-
-/// The most that an axis of a floor holds.
-pub const FLOOR_BOUND: u64 = 1_000_000_000;
 
 /// The plain line of the jobs 1 to `n`, in the first `n` cells.
 fn plain_of<K: Amount>(jobs: &[Job<K>], n: usize) -> Result<[u32; 4096], Refusal>

@@ -8,12 +8,8 @@ ghost use Rattle.intake.specs.Faults.{Offends, Above};
 use amounts::Amount;
 use amounts::exceeds;
 use jobs::Job;
-
-/// The most that an axis of a job's work or output holds.
-pub const AXIS_BOUND: u64 = 1_000_000;
-
-/// The most minutes that a job takes.
-pub const MINUTES_BOUND: u32 = 10_000;
+use refusals::AXIS_BOUND;
+use refusals::MINUTES_BOUND;
 
 /// Whether a job's work, output or minutes are above their bound.
 fn offends<K: Amount>(job: &Job<K>) -> bool

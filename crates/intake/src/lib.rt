@@ -3,7 +3,5 @@ mod bounds;
 mod chain;
 mod tree;
 
-pub use bounds::AXIS_BOUND;
-pub use bounds::MINUTES_BOUND;
 pub use tree::parents_of;
 pub use tree::take_in;

@@ -10,8 +10,9 @@ use super::chain::copy_parents;
 use super::chain::set_chains;
 use amounts::Amount;
 use jobs::Job;
+use refusals::MOST_AXES;
+use refusals::MOST_JOBS;
 use refusals::Refusal;
-use trees::MOST_JOBS;
 use trees::chains_of;
 use trees::check_parents;
 
@@ -23,7 +24,7 @@ pub fn parents_of<K: Amount>(jobs: &[Job<K>], n: usize) -> Result<[u32; 4096], R
     if n == 0 || n > MOST_JOBS || n >= jobs.len() {
         return Err(Refusal::JobCount { jobs: n });
     }
-    if K::count() > 64 {
+    if K::count() > MOST_AXES {
         return Err(Refusal::TooManyAxes);
     }
     if let Some(job) = lowest_offender(jobs, n) {

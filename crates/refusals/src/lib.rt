@@ -1,9 +1,20 @@
-//! Every refusal of the program, one case each, and the four numbers by which it is told.
+//! Every refusal of the program, one case each, with the four numbers by which it is told, and the
+//! bounds that are refused when they are passed.
 ghost use mathlib.Core.Path.{_≡_};
 ghost use mathlib.Core.Logic.{_⊎_};
 ghost use Prim.Native.Nat.{ℕ, _<_, _≤_};
 ghost use Rattle.refusals.specs.Judged.{Order-decides as OrderDecides};
 ghost use Rattle.refusals.specs.Told.{told};
+
+mod bounds;
+
+pub use bounds::AXIS_BOUND;
+pub use bounds::FLOOR_BOUND;
+pub use bounds::MINUTES_BOUND;
+pub use bounds::MOST_AXES;
+pub use bounds::MOST_BENCHES;
+pub use bounds::MOST_BYTES;
+pub use bounds::MOST_JOBS;
 
 /// Why a call was refused. What a case carries is told as its place; a text is told by line and
 /// column.

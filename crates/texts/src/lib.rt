@@ -17,12 +17,10 @@ pub use heading::Heading;
 pub use heading::Rule;
 use jobs::Job;
 use reader::Reader;
+use refusals::MOST_AXES;
+use refusals::MOST_BYTES;
+use refusals::MOST_JOBS;
 use refusals::Refusal;
-use trees::MOST_JOBS;
-
-const MOST_AXES: u32 = 64;
-
-const MOST_BYTES: usize = 65_536;
 
 /// Reads a whole text, and counts its jobs.
 fn scan<K: Amount>(text: &[u8]) -> Result<usize, Refusal>

@@ -5,5 +5,4 @@ mod reach;
 
 pub use chains::Chains;
 pub use chains::chains_of;
-pub use parents::MOST_JOBS;
 pub use parents::check_parents;

@@ -7,10 +7,8 @@ ghost use Rattle.trees.specs.Trees.{Tree};
 ghost use Rattle.trees.specs.Faults.{Parent-fault as ParentFault};
 ghost use Rattle.trees.specs.Found.{jobs-in, par-in, Lowest, Second};
 use super::reach::lowest_unreached;
+use refusals::MOST_JOBS;
 use refusals::Refusal;
-
-/// The most jobs that a tree has.
-pub const MOST_JOBS: usize = 4095;
 
 /// The number of jobs, where their parents make a tree. The parent of job `i` stands at `i`, 0 for
 /// the root; the first cell is spare.

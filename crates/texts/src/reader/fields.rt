@@ -19,6 +19,11 @@ use crate::heading::Heading;
 use crate::heading::Rule;
 use amounts::Amount;
 use jobs::Job;
+use refusals::AXIS_BOUND;
+use refusals::FLOOR_BOUND;
+use refusals::MINUTES_BOUND;
+use refusals::MOST_BENCHES;
+use refusals::MOST_JOBS;
 use refusals::Refusal;
 
 /// The byte before an axis of an amount.
@@ -197,10 +202,10 @@ impl Reader<'_> {
         ensures fresh { λ r. ⌜ made r (λ j. Fresh (K·Amount .reading) j) ⌝ }
     {
         self.word(b"job")?;
-        let parent = self.number(b' ', 4095)?;
-        let work = self.amount(1_000_000)?;
-        let output = self.amount(1_000_000)?;
-        let minutes = self.number(b' ', 10_000)?;
+        let parent = self.number(b' ', MOST_JOBS as u64)?;
+        let work = self.amount(AXIS_BOUND)?;
+        let output = self.amount(AXIS_BOUND)?;
+        let minutes = self.number(b' ', MINUTES_BOUND as u64)?;
         self.line_end()?;
         Ok(Job::new(parent, work, output, minutes))
     }
@@ -214,8 +219,8 @@ impl Reader<'_> {
     {
         self.word(b"hall ")?;
         let rule = self.letter()?;
-        let benches = self.number(b' ', 64)?;
-        let floor = self.amount(1_000_000_000)?;
+        let benches = self.number(b' ', MOST_BENCHES as u64)?;
+        let floor = self.amount(FLOOR_BOUND)?;
         self.line_end()?;
         Ok(Heading {
             rule,

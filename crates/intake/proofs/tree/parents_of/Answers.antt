@@ -20,8 +20,8 @@ returns-then-n-eq0 g c =
       | inr r ↦ inr (elim r [ inl many ↦ inl (many .1) | inr short ↦ inr (short .2) ])
     ])
 
-pub returns-then-count-gt64 : need.returns-then-count-gt64
-returns-then-count-gt64 g c =
+pub returns-then-count-gt-MOST-AXES : need.returns-then-count-gt-MOST-AXES
+returns-then-count-gt-MOST-AXES g c =
     first-axes (g .K·Amount .width) (g .K·Amount .reading) (c .args .jobs .now) (c .args .n) (omega arith) (omega arith) (omega arith) (omega (arith, c .count .ensures))
 
 pub returns-in-Some : need.returns-in-Some

@@ -10,7 +10,6 @@ ghost use Rattle.lines.specs.Faults.{Room-fault as RoomFault};
 ghost use Rattle.lines.specs.Unique.{One-plain as OnePlain};
 use refusals::Refusal;
 use trees::chains_of;
-use trees::check_parents;
 
 /// Writes the plain line of the tree into the front of the row: the postorder that takes children
 /// in rising numbers. The rest of the row stays.
@@ -18,8 +17,8 @@ pub fn plain_line(parents: &[u32], row: &mut [u32]) -> Result<(), Refusal>
     ensures judged { λ r. ⌜ Judged (RoomFault (jobs-in (now (parents .entry))) (par-in (now (parents .entry))) (length (now (row .entry)))) (λ _. Plain (jobs-in (now (parents .entry))) (par-in (now (parents .entry))) (take (jobs-in (now (parents .entry))) (now (row .exit)))) r ⌝ }
     ensures rest { λ r. ⌜ Cases r (λ _. drop (jobs-in (now (parents .entry))) (now (row .exit)) ≡ drop (jobs-in (now (parents .entry))) (now (row .entry))) (λ _. now (row .exit) ≡ now (row .entry)) ⌝ }
 {
-    let needed = check_parents(parents)?;
     let chains = chains_of(parents)?;
+    let needed = parents.len() - 1;
     if row.len() < needed {
         return Err(Refusal::LineMemory { needed });
     }

@@ -11,7 +11,7 @@ use Rattle.refusals.specs.Told.{told}
 use Rattle.refusals.specs.Judged.{First, Not-after, Judged}
 use Rattle.refusals.specs.declared.Refusal.{Refusal}
 use Rattle.trees.specs.declared.chains.Chains.{Chains}
-use Rattle.trees.specs.Trees.{Chained-whole}
+use Rattle.trees.specs.Trees.{Chained-tree}
 use Rattle.trees.specs.Lines.{Line}
 use Rattle.trees.specs.Faults.{Parent-fault}
 use Rattle.trees.proofs.Numbers.{tree-number, row-number}
@@ -57,7 +57,7 @@ module _ {S : Type 0} (w : ℕ) (read : S → ℕ → ℕ) (xs : List (Job S)) (
       no-fault e (unlined h) = lineless e (of-row h)
 
       pub stands-firm : Sound w read xs n → Line n (par-of xs n) row → (r : Result Chains Refusal)
-          → Judged (Parent-fault n (par-of xs n)) (λ c. Chained-whole n (par-of xs n) (λ k. getD (c .first) k 0) (λ k. getD (c .next) k 0)) r
+          → Judged (Parent-fault n (par-of xs n)) (λ c. Chained-tree n (par-of xs n) (λ k. getD (c .first) k 0) (λ k. getD (c .next) k 0)) r
           → Judged (Run-fault w read xs n row) (λ c. Footing w read xs n row (c .first) (c .next)) r
-      stands-firm sound line (Ok c) j = (no-fault, record { sound = sound; lined = line; chained = j .1 .chained })
+      stands-firm sound line (Ok c) j = (no-fault, record { sound = sound; lined = line; chained = j .1 .chains .chained })
       stands-firm sound line (Err e) j = absurd (treed e (parents (j .deserved)))

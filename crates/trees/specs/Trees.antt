@@ -48,3 +48,9 @@ pub record Chained-whole (n : ℕ) (par first next : ℕ → ℕ) : Type 0 where
   pub top : Next-child n par 0 0 (first 0)
   pub top-next : next 0 ≡ 0
   pub past : (k : ℕ) → n < k → (first k ≡ 0) × (next k ≡ 0)
+
+-- the parents make a tree of at most 4,095 jobs, with these chains
+pub record Chained-tree (n : ℕ) (par first next : ℕ → ℕ) : Type 0 where
+  pub few : n ≤ 4095
+  pub tree : Tree n par
+  pub chains : Chained-whole n par first next

@@ -3,7 +3,7 @@ ghost use Prim.Native.Nat.{ℕ, _-_, _≤_, _<_};
 ghost use lib.ListN.{length, getD};
 ghost use Rattle.refusals.specs.Judged.{Judged};
 ghost use Rattle.trees.specs.Sums.{In};
-ghost use Rattle.trees.specs.Trees.{Chained-whole as ChainedWhole};
+ghost use Rattle.trees.specs.Trees.{Chained-tree as ChainedTree, Chained-whole as ChainedWhole};
 ghost use Rattle.trees.specs.Faults.{Parent-fault as ParentFault};
 ghost use Rattle.trees.specs.Found.{jobs-in, par-in};
 use super::parents::check_parents;
@@ -35,7 +35,7 @@ fn link(parents: &[u32], first: &mut [u32], next: &mut [u32])
 
 /// The chains of the tree that the parents make.
 pub fn chains_of(parents: &[u32]) -> Result<Chains, Refusal>
-    ensures { λ r. ⌜ Judged (ParentFault (jobs-in (now (parents .entry))) (par-in (now (parents .entry)))) (λ c. ChainedWhole (jobs-in (now (parents .entry))) (par-in (now (parents .entry))) (λ k. getD (c .first) k 0) (λ k. getD (c .next) k 0)) r ⌝ }
+    ensures { λ r. ⌜ Judged (ParentFault (jobs-in (now (parents .entry))) (par-in (now (parents .entry)))) (λ c. ChainedTree (jobs-in (now (parents .entry))) (par-in (now (parents .entry))) (λ k. getD (c .first) k 0) (λ k. getD (c .next) k 0)) r ⌝ }
 {
     check_parents(parents)?;
     let mut first = [0u32; 4096];

@@ -29,7 +29,7 @@ returns g c =
     let n = c .args .n in
     let good = c .in-Continue-parents .ensures tt in
     let chains = c .in-Continue-chains .chains in
-    let chained = by-slice jobs n (good .1 .0 .records) (λ m par. Chained-whole m par (λ k. getD (chains .first) k 0) (λ k. getD (chains .next) k 0)) (c .in-Continue-parents .parents) (good .1 .1) (c .in-Continue-chains .ensures tt .1) in
+    let chained = by-slice jobs n (good .1 .0 .records) (λ m par. Chained-whole m par (λ k. getD (chains .first) k 0) (λ k. getD (chains .next) k 0)) (c .in-Continue-parents .parents) (good .1 .1) (c .in-Continue-chains .ensures tt .1 .chains) in
     record {
       told = (good .0, (good .1 .0, taken (λ k. getD (chains .first) k 0) (λ k. getD (chains .next) k 0) jobs (c .set-chains .last .jobs) n (chained .chained) (c .set-chains .ensures)));
       same = tt;

@@ -2,7 +2,7 @@ use lib.ListN.{getD}
 use Rattle.refusals.specs.Judged.{First, Judged}
 use Rattle.refusals.specs.declared.Refusal.{Refusal}
 use Rattle.std.proofs.shelf.Results.{err-from-errBy}
-use Rattle.trees.specs.Trees.{Chained-whole}
+use Rattle.trees.specs.Trees.{Chained-tree}
 use Rattle.trees.specs.Lines.{Line}
 use Rattle.trees.specs.Faults.{Parent-fault}
 use Rattle.lines.specs.Faults.{Line-fault}
@@ -40,4 +40,4 @@ returns g c =
     (good .1 .0)
     (by-slice jobs n room (λ m par. Line m par line) (c .in-Continue-parents .parents) (good .1 .1) (placed .1 .line))
     (c .chains-of .result)
-    (by-slice jobs n room (λ m par. Judged (Parent-fault m par) (λ h. Chained-whole m par (λ k. getD (h .first) k 0) (λ k. getD (h .next) k 0)) (c .chains-of .result)) (c .in-Continue-parents .parents) (good .1 .1) (c .chains-of .ensures))
+    (by-slice jobs n room (λ m par. Judged (Parent-fault m par) (λ h. Chained-tree m par (λ k. getD (h .first) k 0) (λ k. getD (h .next) k 0)) (c .chains-of .result)) (c .in-Continue-parents .parents) (good .1 .1) (c .chains-of .ensures))

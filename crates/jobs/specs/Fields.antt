@@ -9,9 +9,6 @@ abbrev pub at : {X : Type 0} → (X → ℕ) → List X → ℕ → ℕ
 at f xs i = getD (map f xs) i 0
 
 module _ {S : Type 0} where
-  abbrev pub parent-of : List (Job S) → ℕ → ℕ
-  parent-of = at (λ j. j .parent)
-
   abbrev pub minutes-of : List (Job S) → ℕ → ℕ
   minutes-of = at (λ j. j .minutes)
 

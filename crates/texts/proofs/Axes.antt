@@ -24,13 +24,6 @@ mark-digit a = by (eqb a 1)
     by true = refl
     by false = refl
 
-pub mark-line : (a : ℕ) → mark-of a ≡ 10 → ⊥
-mark-line a = by (eqb a 1)
-  where
-    by : (b : Bool) → _≡_ {A = ℕ} (cond b 32 47) 10 → ⊥
-    by true e = omega arith
-    by false e = omega arith
-
 mark-later : (a : ℕ) → 1 ≤ a → mark-of (a + 1) ≡ 47
 mark-later a h = ap (λ b. cond b 32 47) (ne-eqb (a + 1) 1 (λ e. omega arith))
 

@@ -14,21 +14,11 @@ use Rattle.trees.proofs.Sums.{sum-le, sum-eq, sum-zero, sum-add, sum-one}
 use Rattle.trees.proofs.Places.{place-low, place-entry, line-place}
 
 module _ (n : ℕ) (par : ℕ → ℕ) (row : List ℕ) (w f : ℕ → ℕ) where
-  -- the outputs of the children of q that stand before position p
-  abbrev pub given-at : ℕ → ℕ → ℕ
-  given-at p q = sum (λ k. only (eqb (par k) q && ltb (place k row) p) (f k)) n
-
   pub left-none : left-at n par row w f 1 ≡ 0
   left-none = sum-zero (λ k. only (ltb (place k row) 1 && not (ltb (place (par k) row) 1)) (f k)) n (λ k i. let z = place-low k row in grind (arith, tells))
 
-  pub given-none : (q : ℕ) → given-at 1 q ≡ 0
-  given-none q = sum-zero (λ k. only (eqb (par k) q && ltb (place k row) 1) (f k)) n (λ k i. let z = place-low k row in grind (arith, tells))
-
   pub left-most : (p : ℕ) → left-at n par row w f p ≤ sum f n
   left-most p = sum-le (λ k. only (ltb (place k row) p && not (ltb (place (par k) row) p)) (f k)) f n (λ k i. grind (arith, tells))
-
-  pub given-most : (p q : ℕ) → given-at p q ≤ sum f n
-  given-most p q = sum-le (λ k. only (eqb (par k) q && ltb (place k row) p) (f k)) f n (λ k i. grind (arith, tells))
 
   module _ (l : Line n par row) (p : ℕ) (here : In n p) where
     abbrev i : ℕ
@@ -43,12 +33,6 @@ module _ (n : ℕ) (par : ℕ → ℕ) (row : List ℕ) (w f : ℕ → ℕ) wher
 
     alone : (k : ℕ) → place k row ≡ p → k ≡ i
     alone k e = sym (place-entry k row (omega (arith, l .size))) ∙ ap (entry row) e
-
-    -- when the job at p stands, all its children do
-    pub given-all : given-at p (entry row p) ≡ kids n par f (entry row p)
-    given-all =
-        sum-eq (λ k. only (eqb (par k) i && ltb (place k row) p) (f k)) (λ k. only (eqb (par k) i) (f k)) n
-        (λ k j. let z = l .later k j in let y = there (par k) in grind (arith, tells))
 
     step : (k : ℕ) → In n k → only (ltb (place k row) (p + 1) && not (ltb (place (par k) row) (p + 1))) (f k) + only (eqb (par k) i) (f k) ≡ only (ltb (place k row) p && not (ltb (place (par k) row) p)) (f k) + only (eqb k i) (f k)
     step k j =
@@ -68,16 +52,4 @@ module _ (n : ℕ) (par : ℕ → ℕ) (row : List ℕ) (w f : ℕ → ℕ) wher
           sum-add (λ k. only (ltb (place k row) p && not (ltb (place (par k) row) p)) (f k)) (λ k. only (eqb k i) (f k)) n,
           sum-eq (λ k. only (ltb (place k row) (p + 1) && not (ltb (place (par k) row) (p + 1))) (f k) + only (eqb (par k) i) (f k)) (λ k. only (ltb (place k row) p && not (ltb (place (par k) row) p)) (f k) + only (eqb k i) (f k)) n step,
           sum-one f i n (l .jobs p here),
-        )
-
-    given-step : (q k : ℕ) → In n k → only (eqb (par k) q && ltb (place k row) (p + 1)) (f k) ≡ only (eqb (par k) q && ltb (place k row) p) (f k) + only (eqb k i) (only (eqb (par k) q) (f k))
-    given-step q k j = let a = there k in let b = alone k in grind (arith, tells)
-
-    pub given-next : (q : ℕ) → given-at (p + 1) q ≡ given-at p q + only (eqb (par (entry row p)) q) (f (entry row p))
-    given-next q =
-        omega (
-          arith,
-          sum-add (λ k. only (eqb (par k) q && ltb (place k row) p) (f k)) (λ k. only (eqb k i) (only (eqb (par k) q) (f k))) n,
-          sum-eq (λ k. only (eqb (par k) q && ltb (place k row) (p + 1)) (f k)) (λ k. only (eqb (par k) q && ltb (place k row) p) (f k) + only (eqb k i) (only (eqb (par k) q) (f k))) n (given-step q),
-          sum-one (λ k. only (eqb (par k) q) (f k)) i n (l .jobs p here),
         )

@@ -1,4 +1,6 @@
 //! The open board: opening, starts, reports and questions.
+#![tactic(auto)]
+
 mod board;
 mod calls;
 mod held;

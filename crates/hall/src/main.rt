@@ -1,10 +1,13 @@
 //! The program: `hall check [FILE]`.
+#![tactic(auto)]
+
 mod command;
 
 use amounts::Places;
 use anyhow::anyhow;
 use command::{Command, command_of};
 use std::io::Read;
+use std::process::ExitCode;
 use std::{env, fs};
 use verdicts::{answer_line, check_text};
 
@@ -20,7 +23,7 @@ check prints one line and ends with status 0 or 1:
 docs/REFUSALS.md lists the numbers, docs/TEXT.md the form of a run.";
 
 const VERSION: &str = "hall 0.1.0
-proved with rattle-kit-8b logic 7f726aa041520687";
+proved with rattle-kit-13f logic dac8208d650f15bf";
 
 /// The bytes of the file, or of standard input where no file is named.
 fn bytes_of(rt: &HostRuntime, file: Option<String>) -> anyhow::Result<Vec<u8>> {
@@ -69,14 +72,14 @@ fn run(rt: &HostRuntime) -> anyhow::Result<bool> {
     Ok(true)
 }
 
-fn main(rt: HostRuntime) -> anyhow::Result<()> {
+fn main(rt: HostRuntime) -> ExitCode {
     match run(&rt) {
-        Ok(true) => Ok(()),
-        // an `Err` ends the process with status 1
-        Ok(false) => Err(anyhow!("refused")),
+        Ok(true) => ExitCode::SUCCESS,
+        Ok(false) => ExitCode::FAILURE,
         Err(e) => {
-            eprintln!(rt; "hall: {e}")?;
-            Err(e)
+            // where standard error cannot be written, the status alone tells it
+            let _ = eprintln!(rt; "hall: {e}");
+            ExitCode::FAILURE
         }
     }
 }

@@ -1,4 +1,6 @@
 //! Taking a tree of job records in: the checks in their order, and the chains of children.
+#![tactic(auto)]
+
 mod bounds;
 mod chain;
 mod tree;

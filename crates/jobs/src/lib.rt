@@ -1,4 +1,6 @@
 //! The record of a job, for any kind of amount.
+#![tactic(auto)]
+
 ghost use Rattle.std.specs.Prelude.{◌≡◌, ℕ};
 ghost use Rattle.amounts.specs.Axes.{Same};
 ghost use Rattle.jobs.specs.declared.State.TheVariants.{Waiting};

@@ -1,4 +1,6 @@
 //! The line rule: jobs are booked in the order of the line while the floor has room for them.
+#![tactic(auto)]
+
 mod rule;
 
 pub use rule::LineRule;

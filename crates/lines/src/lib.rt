@@ -1,4 +1,6 @@
 //! Lines of a tree of jobs: the check of one, the plain one, and whether subtrees stand together.
+#![tactic(auto)]
+
 mod apart;
 mod check;
 mod plain;

@@ -1,4 +1,6 @@
 //! What stands in the hall while a line is run job by job, for any kind of amount.
+#![tactic(auto)]
+
 mod add;
 mod inputs;
 mod run;

@@ -1,4 +1,6 @@
 //! What the text of a run is, and which refusal a text deserves.
+#![tactic(auto)]
+
 ghost use Rattle.prints.specs.Answers.{OneRefusal, NotBoth, OneRun};
 
 /// A text has one answer: it is granted or refused, and not both; it is refused in one way; and the

@@ -1,5 +1,7 @@
 //! Every refusal of the program, one case each, with the four numbers by which it is told, and the
 //! bounds that are refused when they are passed.
+#![tactic(auto)]
+
 ghost use Rattle.std.specs.Prelude.{◌≡◌, ℕ, ◌<◌, ◌≤◌, ◌⊎◌};
 ghost use Rattle.refusals.specs.Judged.{OrderDecides};
 ghost use Rattle.refusals.specs.Told.{told};

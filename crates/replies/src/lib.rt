@@ -1,4 +1,6 @@
 //! A board's calls and answers as lines of text.
+#![tactic(auto)]
+
 mod reply;
 mod words;
 

@@ -1,4 +1,5 @@
 //! Calls as people type them, and answers with the lines that tell them.
+#![tactic(auto)]
 
 #[cfg(test)]
 mod tests {

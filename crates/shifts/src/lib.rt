@@ -1,4 +1,6 @@
 //! Whole shifts: a board is opened, and the calls of a list or of a desk are carried out.
+#![tactic(auto)]
+
 mod desk;
 mod run;
 

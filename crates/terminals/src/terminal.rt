@@ -27,13 +27,13 @@ pub struct Terminal<'a> {
 }
 
 impl<'a> Terminal<'a> {
-    pub fn new(rt: &'a HostRuntime) -> Terminal<'a> {
-        Terminal {
+    pub fn new(rt: &'a HostRuntime) -> anyhow::Result<Terminal<'a>> {
+        Ok(Terminal {
             rt,
-            input: BufReader::new(rt.stdin()),
+            input: BufReader::new(rt.alloc(), rt.stdin())?,
             lines: 0,
             entries: Vec::new(rt.alloc()),
-        }
+        })
     }
 
     /// The next line without its end; none at the end of the input.

@@ -1,4 +1,6 @@
 //! The reader of a run's text, for any kind of amount.
+#![tactic(auto)]
+
 ghost use Rattle.std.specs.Prelude.{◌≡◌, ℕ, ◌≤◌, true, length, is_ok, MatchResult};
 ghost use Rattle.prints.specs.Runs.{Run};
 ghost use Rattle.prints.specs.Faults.{Refused};

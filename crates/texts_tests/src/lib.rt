@@ -1,4 +1,6 @@
 //! The reader of texts at work, on texts that are written out.
+#![tactic(auto)]
+
 #[cfg(test)]
 mod tests {
     use amounts::{Amount, Pair, Places, Quarters};

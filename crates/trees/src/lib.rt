@@ -1,4 +1,6 @@
 //! Trees of jobs by their parents alone, on plain numbers.
+#![tactic(auto)]
+
 mod chains;
 mod parents;
 mod reach;

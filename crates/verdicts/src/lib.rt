@@ -1,4 +1,6 @@
 //! The answer to a text: whether the hall can carry the run, and the line that says so.
+#![tactic(auto)]
+
 mod answer;
 mod judge;
 

@@ -1,4 +1,5 @@
 //! Runs as people type them, with the line that answers each.
+#![tactic(auto)]
 
 #[cfg(test)]
 mod tests {

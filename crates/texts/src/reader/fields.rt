@@ -183,11 +183,11 @@ impl Reader<'_> {
 
     /// A job's line.
     pub(crate) fn job<K: Amount>(&mut self) -> Result<Job<K>, Refusal>
-        requires { K-as-Amount.width ≤ 64 }
+        requires { K.Amount.width ≤ 64 }
         ensures same { self.new.bytes ≡ self.old.bytes }
-        ensures reads { Reads self.old.bytes.now self.old.pos self.new.pos (job_parts K-as-Amount.width) Any (λ j. lines (line_of K-as-Amount.reading K-as-Amount.width j ∷ [])) result }
-        ensures held { IfOk result (λ j. LineHeld K-as-Amount.width true (line_of K-as-Amount.reading K-as-Amount.width j)) }
-        ensures fresh { IfOk result (λ j. Fresh K-as-Amount.reading j) }
+        ensures reads { Reads self.old.bytes.now self.old.pos self.new.pos (job_parts K.Amount.width) Any (λ j. lines (line_of K.Amount.reading K.Amount.width j ∷ [])) result }
+        ensures held { IfOk result (λ j. LineHeld K.Amount.width true (line_of K.Amount.reading K.Amount.width j)) }
+        ensures fresh { IfOk result (λ j. Fresh K.Amount.reading j) }
     {
         self.word(b"job")?;
         let parent = self.number(b' ', MOST_JOBS as u64)?;
@@ -200,10 +200,10 @@ impl Reader<'_> {
 
     /// The first line, with no job counted yet.
     pub(crate) fn heading<K: Amount>(&mut self) -> Result<Heading<K>, Refusal>
-        requires { K-as-Amount.width ≤ 64 }
+        requires { K.Amount.width ≤ 64 }
         ensures same { self.new.bytes ≡ self.old.bytes }
-        ensures reads { Reads self.old.bytes.now self.old.pos self.new.pos (heading_parts K-as-Amount.width) Any (λ h. text_of (run_of K-as-Amount.reading K-as-Amount.width h [])) result }
-        ensures held { IfOk result (λ h. RunHeld K-as-Amount.width true (run_of K-as-Amount.reading K-as-Amount.width h [])) }
+        ensures reads { Reads self.old.bytes.now self.old.pos self.new.pos (heading_parts K.Amount.width) Any (λ h. text_of (run_of K.Amount.reading K.Amount.width h [])) result }
+        ensures held { IfOk result (λ h. RunHeld K.Amount.width true (run_of K.Amount.reading K.Amount.width h [])) }
     {
         self.word(b"hall ")?;
         let rule = self.letter()?;

@@ -26,18 +26,18 @@ returns-then-job-eq0 g c bear =
       | inr r ↦ elim r [ inl many ↦ omega (arith, bear.job, many.1) | inr short ↦ omega (arith, bear.record_there, short.2) ]
     ]
 
-pub returns-in-default : goal.returns-in-default
-returns-in-default g c bear =
+pub returns-in_default : goal.returns-in_default
+returns-in_default g c bear =
     let job = c.index-jobs-job in
-    c.in-default.not-Waiting (sym (state_read c.args.jobs.now c.args.job job.result (omega arith) job.is Done) ∙ bear.waits)
+    c.in_default.not-Waiting (sym (state_read c.args.jobs.now c.args.job job.result (omega arith) job.is Done) ∙ bear.waits)
 
-pub returns-in-err-sum : goal.returns-in-err-sum
-returns-in-err-sum g c =
+pub returns-in_err-sum : goal.returns-in_err-sum
+returns-in_err-sum g c =
     let job = c.index-jobs-job in
-    let over = c.in-err-sum.ensures in
-    rw c.from-residual.ensures (no_work g.K.Amount.width g.K.Amount.reading c.args.jobs.now c.args.job c.args.held.now job.result (omega arith, omega arith) (omega arith) job.is over.0 over.1)
+    let over = c.in_err-sum.ensures in
+    rw c.from_residual.ensures (no_work g.K.Amount.width g.K.Amount.reading c.args.jobs.now c.args.job c.args.held.now job.result (omega arith, omega arith) (omega arith) job.is over.0 over.1)
 
 pub returns : goal.returns
 returns g c =
     let job = c.index-jobs-job in
-    with_output g.K.Amount.width g.K.Amount.reading c.args.jobs.now c.args.job c.args.held.now job.result (omega arith, omega arith) (omega arith) job.is _ c.in-ok-sum.ensures c.sum-2.result c.sum-2.ensures
+    with_output g.K.Amount.width g.K.Amount.reading c.args.jobs.now c.args.job c.args.held.now job.result (omega arith, omega arith) (omega arith) job.is _ c.in_ok-sum.ensures c.sum-2.result c.sum-2.ensures

@@ -12,10 +12,10 @@ without_back : {S : Type 0} (w : ℕ) (read : S → ℕ → ℕ) (xs : List (Job
 without_back w read xs j held b back inside gives None (k, less) = λ n e. omega (arith, e.holds k, gives n e.chained e.job k)
 without_back w read xs j held b back inside gives (Some x) rest = (inside, λ n chained i a. omega (arith, rest a, gives n chained i a))
 
-pub returns-in-default : goal.returns-in-default
-returns-in-default g c n e =
+pub returns-in_default : goal.returns-in_default
+returns-in_default g c n e =
     let job = c.index-jobs-job in
-    c.in-default.not-Running c.args.bench (sym (state_read c.args.jobs.now c.args.job job.result (omega arith) job.is Done) ∙ e.runs)
+    c.in_default.not-Running c.args.bench (sym (state_read c.args.jobs.now c.args.job job.result (omega arith) job.is Done) ∙ e.runs)
 
 pub returns-then-at-bench : goal.returns-then-at-bench
 returns-then-at-bench g c n e =
@@ -25,4 +25,4 @@ returns-then-at-bench g c n e =
 
 pub returns : goal.returns
 returns g c =
-    without_back g.K.Amount.width g.K.Amount.reading c.args.jobs.now c.args.job c.args.held.now c.args.bench c.in-ok-back.back (omega arith) c.in-ok-back.ensures c.difference.result c.difference.ensures
+    without_back g.K.Amount.width g.K.Amount.reading c.args.jobs.now c.args.job c.args.held.now c.args.bench c.in_ok-back.back (omega arith) c.in_ok-back.ensures c.difference.result c.difference.ensures

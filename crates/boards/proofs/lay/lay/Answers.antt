@@ -2,11 +2,11 @@ use Rattle.std.proofs.Common.{◌≡◌, ℕ, ◌+◌, ◌-◌, ◌<◌, length,
 use Rattle.boards.proofs.Laying.{ready, Readied, readied_more, laid}
 use Rattle.boards.proofs.lay.lay.Goals as goal
 
-pub offset-bounds-jobs-i : goal.offset-bounds-jobs-i
-offset-bounds-jobs-i g c = let h : c.loop-i.i < length c.args.jobs.now = omega arith in search rules
+pub offset_bounds-jobs-i : goal.offset_bounds-jobs-i
+offset_bounds-jobs-i g c = let h : c.loop-i.i < length c.args.jobs.now = omega arith in search rules
 
-pub offset-bounds-jobs-i-in-loop-i : goal.offset-bounds-jobs-i-in-loop-i
-offset-bounds-jobs-i-in-loop-i g c = let h : c.loop-i.i < length c.args.jobs.now = omega arith in search rules
+pub offset_bounds-jobs-i-in-loop-i : goal.offset_bounds-jobs-i-in-loop-i
+offset_bounds-jobs-i-in-loop-i g c = let h : c.loop-i.i < length c.args.jobs.now = omega arith in search rules
 
 pub loop-i-preserved : goal.loop-i-preserved
 loop-i-preserved g c =

@@ -16,42 +16,42 @@ benched : (b : ℕ) → (b ≡ 0 → ⊥) → b ≤ 64 → (b ≡ 0) ⊎ (64 < b
 benched b some few (inl h) = some h
 benched b some few (inr h) = omega arith
 
-pub returns-in-err-line : goal.returns-in-err-line
-returns-in-err-line g c =
-    let p = err_from_is_err_and c.from-residual.result c.from-residual.ensures.1 in
-    rw (p.1, p.2) (first_tree g.K.Amount.width g.K.Amount.reading c.args.jobs.now c.args.n c.args.benches c.args.floor.now c.in-err-line.field-0.0 c.in-err-line.ensures)
+pub returns-in_err-line : goal.returns-in_err-line
+returns-in_err-line g c =
+    let p = err_from_is_err_and c.from_residual.result c.from_residual.ensures.1 in
+    rw (p.1, p.2) (first_tree g.K.Amount.width g.K.Amount.reading c.args.jobs.now c.args.n c.args.benches c.args.floor.now c.in_err-line.field-0.0 c.in_err-line.ensures)
 
 pub returns-then-benches-eq0 : goal.returns-then-benches-eq0
 returns-then-benches-eq0 g c =
-    first_benches g.K.Amount.width g.K.Amount.reading c.args.jobs.now c.args.n c.args.benches c.args.floor.now c.in-ok-line.ensures.1.0
+    first_benches g.K.Amount.width g.K.Amount.reading c.args.jobs.now c.args.n c.args.benches c.args.floor.now c.in_ok-line.ensures.1.0
     (elim c.then-benches-eq0.either [ inl h ↦ inl h | inr h ↦ inr h.1 ])
 
 pub returns-then-exceeds : goal.returns-then-exceeds
 returns-then-exceeds g c =
-    first_floor g.K.Amount.width g.K.Amount.reading c.args.jobs.now c.args.n c.args.benches c.args.floor.now c.in-ok-line.ensures.1.0
-    (benched c.args.benches c.if-benches-eq0.false c.if-benches-gt-MOST-BENCHES.false) c.if-exceeds.ensures
+    first_floor g.K.Amount.width g.K.Amount.reading c.args.jobs.now c.args.n c.args.benches c.args.floor.now c.in_ok-line.ensures.1.0
+    (benched c.args.benches c.if-benches-eq0.false c.if-benches-gt-MOST_BENCHES.false) c.if-exceeds.ensures
 
 -- the line was made here
-pub returns-in-err-position : goal.returns-in-err-position
-returns-in-err-position g c =
-    let good = c.in-ok-line.ensures.1 in
-    let line = lent_plain (par_of c.args.jobs.now c.args.n) c.args.n c.in-ok-line.line good.1 in
-    absurd (run_faultless good.0 line.postorder.line c.in-err-position.ensures.deserved)
+pub returns-in_err-position : goal.returns-in_err-position
+returns-in_err-position g c =
+    let good = c.in_ok-line.ensures.1 in
+    let line = lent_plain (par_of c.args.jobs.now c.args.n) c.args.n c.in_ok-line.line good.1 in
+    absurd (run_faultless good.0 line.postorder.line c.in_err-position.ensures.deserved)
 
 pub returns-in-Some : goal.returns-in-Some
 returns-in-Some g c =
-    let good = c.in-ok-line.ensures.1 in
+    let good = c.in_ok-line.ensures.1 in
     let n = c.args.n in
-    let line = lent_plain (par_of c.args.jobs.now n) n c.in-ok-line.line good.1 in
-    let found = MatchOption-at_some _ _ c.in-Some.position c.in-Some.is c.in-ok-position.ensures.1 in
+    let line = lent_plain (par_of c.args.jobs.now n) n c.in_ok-line.line good.1 in
+    let found = MatchOption-at_some _ _ c.in-Some.position c.in-Some.is c.in_ok-position.ensures.1 in
     first_exceeded g.K.Amount.width g.K.Amount.reading c.args.jobs.now n c.args.benches c.args.floor.now good.0
-    (benched c.args.benches c.if-benches-eq0.false c.if-benches-gt-MOST-BENCHES.false) c.if-exceeds.ensures _ line c.in-Some.position found.2 found.0 found.1
+    (benched c.args.benches c.if-benches-eq0.false c.if-benches-gt-MOST_BENCHES.false) c.if-exceeds.ensures _ line c.in-Some.position found.2 found.0 found.1
 
 pub returns : goal.returns
 returns g c =
-    let good = c.in-ok-line.ensures.1 in
+    let good = c.in_ok-line.ensures.1 in
     let n = c.args.n in
-    let line = lent_plain (par_of c.args.jobs.now n) n c.in-ok-line.line good.1 in
+    let line = lent_plain (par_of c.args.jobs.now n) n c.in_ok-line.line good.1 in
     peak_told g.K.Amount.width g.K.Amount.reading c.args.jobs.now n c.args.benches c.args.floor.now good.0
-    (benched c.args.benches c.if-benches-eq0.false c.if-benches-gt-MOST-BENCHES.false) c.if-exceeds.ensures _ line
-    (MatchOption-at_none _ _ c.in-default.is c.in-ok-position.ensures.1) c.peak.result c.peak.ensures
+    (benched c.args.benches c.if-benches-eq0.false c.if-benches-gt-MOST_BENCHES.false) c.if-exceeds.ensures _ line
+    (MatchOption-at_none _ _ c.in_default.is c.in_ok-position.ensures.1) c.peak.result c.peak.ensures

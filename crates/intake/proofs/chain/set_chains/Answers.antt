@@ -3,11 +3,11 @@ use Rattle.intake.specs.Taken.{linked, Rechained}
 use Rattle.intake.proofs.Rechaining.{none_rechained, rechained_more}
 use Rattle.intake.proofs.chain.set_chains.Goals as goal
 
-pub offset-bounds-jobs-i : goal.offset-bounds-jobs-i
-offset-bounds-jobs-i g c = let h : c.loop-i.i < length c.args.jobs.now = omega arith in search rules
+pub offset_bounds-jobs-i : goal.offset_bounds-jobs-i
+offset_bounds-jobs-i g c = let h : c.loop-i.i < length c.args.jobs.now = omega arith in search rules
 
-pub offset-bounds-jobs-i-in-loop-i : goal.offset-bounds-jobs-i-in-loop-i
-offset-bounds-jobs-i-in-loop-i g c = let h : c.loop-i.i < length c.args.jobs.now = omega arith in search rules
+pub offset_bounds-jobs-i-in-loop-i : goal.offset_bounds-jobs-i-in-loop-i
+offset_bounds-jobs-i-in-loop-i g c = let h : c.loop-i.i < length c.args.jobs.now = omega arith in search rules
 
 pub loop-i-init : goal.loop-i-init
 loop-i-init g c =

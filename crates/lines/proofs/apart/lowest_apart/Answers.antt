@@ -8,13 +8,13 @@ use Rattle.lines.proofs.apart.lowest_apart.Goals as goal
 
 pub gather-requires : goal.gather-requires
 gather-requires c =
-    let h = c.in-ok-places.ensures in
+    let h = c.in_ok-places.ensures in
     let few = line_few _ _ _ h.0 in
     record { tree = h.1.tree; line = h.1.line; few = few; long = (omega arith, search rules); clear = blank 4096; placed = h.1.placed }
 
-pub first-apart-requires : goal.first-apart-requires
-first-apart-requires c =
-    let h = c.in-ok-places.ensures in
+pub first_apart-requires : goal.first_apart-requires
+first_apart-requires c =
+    let h = c.in_ok-places.ensures in
     let few = line_few _ _ _ h.0 in
     record {
       long = (search rules, (search rules, search rules));
@@ -23,5 +23,5 @@ first-apart-requires c =
 
 pub returns : goal.returns
 returns c =
-    let h = c.in-ok-places.ensures in
-    (h.0, found_apart _ _ _ h.1.tree h.1.line _ _ _ c.gather.ensures.sizes c.gather.ensures.lows h.1.placed c.first-apart.result c.first-apart.ensures)
+    let h = c.in_ok-places.ensures in
+    (h.0, found_apart _ _ _ h.1.tree h.1.line _ _ _ c.gather.ensures.sizes c.gather.ensures.lows h.1.placed c.first_apart.result c.first_apart.ensures)

@@ -17,14 +17,14 @@ loop-child-init g c =
       next_is_child n par i 0 _ first,
     )
 
-pub offset-bounds-jobs-child : goal.offset-bounds-jobs-child
-offset-bounds-jobs-child g c = omega (arith, c.loop-child.invariant.1 c.loop-child-test.true, c.requires.sound.records)
+pub offset_bounds-jobs-child : goal.offset_bounds-jobs-child
+offset_bounds-jobs-child g c = omega (arith, c.loop-child.invariant.1 c.loop-child-test.true, c.requires.sound.records)
 
 pub bounds-jobs-child : goal.bounds-jobs-child
 bounds-jobs-child g c = omega (arith, c.loop-child.invariant.1 c.loop-child-test.true, c.requires.sound.records)
 
-pub offset-bounds-next-child : goal.offset-bounds-next-child
-offset-bounds-next-child g c =
+pub offset_bounds-next-child : goal.offset_bounds-next-child
+offset_bounds-next-child g c =
     let h : c.loop-child.child < length c.args.next.now = omega (arith, c.loop-child.invariant.1 c.loop-child-test.true) in search rules
 
 pub bounds-next-child : goal.bounds-next-child

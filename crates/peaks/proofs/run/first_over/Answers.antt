@@ -5,9 +5,9 @@ use Rattle.peaks.specs.Stood.{Over}
 use Rattle.peaks.proofs.Passing.{left_first}
 use Rattle.peaks.proofs.run.first_over.Goals as goal
 
-pub returns-in-err-chains : goal.returns-in-err-chains
-returns-in-err-chains g c =
-    let p = err_from_is_err_and c.from-residual.result c.from-residual.ensures.1 in rw (p.1, p.2) c.in-err-chains.ensures
+pub returns-in_err-chains : goal.returns-in_err-chains
+returns-in_err-chains g c =
+    let p = err_from_is_err_and c.from_residual.result c.from_residual.ensures.1 in rw (p.1, p.2) c.in_err-chains.ensures
 
 pub loop-p-init : goal.loop-p-init
 loop-p-init g c =
@@ -16,7 +16,7 @@ loop-p-init g c =
 pub returns-then-not-fits : goal.returns-then-not-fits
 returns-then-not-fits g c =
     let over = c.if-not-fits.ensures in (
-      c.in-ok-chains.ensures.0,
+      c.in_ok-chains.ensures.0,
       ((omega arith, omega arith), (over.0, omega (arith, over.1, c.step-stands.ensures.stands over.0)), c.loop-p.invariant.2),
     )
 
@@ -33,4 +33,4 @@ loop-p-preserved g c = (
 )
 
 pub returns : goal.returns
-returns g c = (c.in-ok-chains.ensures.0, λ k i over. c.loop-p.invariant.2 k i (omega arith) over)
+returns g c = (c.in_ok-chains.ensures.0, λ k i over. c.loop-p.invariant.2 k i (omega arith) over)

@@ -6,9 +6,9 @@ use Rattle.peaks.specs.Stood.{stand}
 use Rattle.peaks.proofs.Passing.{left_first}
 use Rattle.peaks.proofs.run.peak.Goals as goal
 
-pub returns-in-err-chains : goal.returns-in-err-chains
-returns-in-err-chains g c =
-    let p = err_from_is_err_and c.from-residual.result c.from-residual.ensures.1 in rw (p.1, p.2) c.in-err-chains.ensures
+pub returns-in_err-chains : goal.returns-in_err-chains
+returns-in_err-chains g c =
+    let p = err_from_is_err_and c.from_residual.result c.from_residual.ensures.1 in rw (p.1, p.2) c.in_err-chains.ensures
 
 pub loop-p-init : goal.loop-p-init
 loop-p-init g c =
@@ -30,4 +30,4 @@ loop-p-preserved g c =
 pub returns : goal.returns
 returns g c =
     let all : c.loop-p.p - 1 ≡ c.args.n = omega (arith, c.loop-p.auto.p-end (omega arith)) in
-    (c.in-ok-chains.ensures.0, λ a. c.loop-p.invariant.2 a ∙ ap (greatest (stand g.K.Amount.reading c.args.jobs.now c.args.n c.args.line.now a)) all)
+    (c.in_ok-chains.ensures.0, λ a. c.loop-p.invariant.2 a ∙ ap (greatest (stand g.K.Amount.reading c.args.jobs.now c.args.n c.args.line.now a)) all)

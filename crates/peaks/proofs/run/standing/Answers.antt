@@ -4,9 +4,9 @@ use Rattle.peaks.specs.Stood.{Left}
 use Rattle.peaks.proofs.Passing.{left_first}
 use Rattle.peaks.proofs.run.standing.Goals as goal
 
-pub returns-in-err-chains : goal.returns-in-err-chains
-returns-in-err-chains g c =
-    let p = err_from_is_err_and c.from-residual.result c.from-residual.ensures.1 in rw (p.1, p.2) c.in-err-chains.ensures
+pub returns-in_err-chains : goal.returns-in_err-chains
+returns-in_err-chains g c =
+    let p = err_from_is_err_and c.from_residual.result c.from_residual.ensures.1 in rw (p.1, p.2) c.in_err-chains.ensures
 
 pub loop-p-init : goal.loop-p-init
 loop-p-init g c =
@@ -14,7 +14,7 @@ loop-p-init g c =
 
 pub step-stands-requires : goal.step-stands-requires
 step-stands-requires g c =
-    let firm = c.in-ok-chains.ensures.1 in
+    let firm = c.in_ok-chains.ensures.1 in
     record {
       sound = firm.sound;
       lined = firm.lined;
@@ -26,7 +26,7 @@ step-stands-requires g c =
 
 pub step-stands-requires-2 : goal.step-stands-requires-2
 step-stands-requires-2 g c =
-    let firm = c.in-ok-chains.ensures.1 in
+    let firm = c.in_ok-chains.ensures.1 in
     let all : c.loop-p.p ≡ c.args.position = omega (arith, c.loop-p.auto.p-end (omega arith)) in
     record {
       sound = firm.sound;
@@ -41,4 +41,4 @@ pub loop-p-preserved : goal.loop-p-preserved
 loop-p-preserved g c = (omega arith, c.step-stands.ensures.leaves)
 
 pub returns : goal.returns
-returns g c = (c.in-ok-chains.ensures.0, ((omega arith, omega arith), c.step-stands-2.ensures.stands))
+returns g c = (c.in_ok-chains.ensures.0, ((omega arith, omega arith), c.step-stands-2.ensures.stands))

@@ -12,42 +12,42 @@ use Rattle.intake.proofs.Rows.{by_slice}
 use Rattle.peaks.proofs.Firsts.{first_tree, first_line, no_fault}
 use Rattle.peaks.proofs.survey.survey_of.Goals as goal
 
-pub returns-in-err-parents : goal.returns-in-err-parents
-returns-in-err-parents g c =
-    let p = err_from_is_err_and c.from-residual.result c.from-residual.ensures.1 in
-    let e = c.in-err-parents.field-0.0 in
-    rw (p.1, p.2) (first_tree g.K.Amount.width g.K.Amount.reading c.args.jobs.now c.args.n c.args.line.now e c.in-err-parents.ensures)
+pub returns-in_err-parents : goal.returns-in_err-parents
+returns-in_err-parents g c =
+    let p = err_from_is_err_and c.from_residual.result c.from_residual.ensures.1 in
+    let e = c.in_err-parents.field-0.0 in
+    rw (p.1, p.2) (first_tree g.K.Amount.width g.K.Amount.reading c.args.jobs.now c.args.n c.args.line.now e c.in_err-parents.ensures)
 
-pub returns-in-err-places : goal.returns-in-err-places
-returns-in-err-places g c =
-    let p = err_from_is_err_and c.from-residual-in-err-places.result c.from-residual-in-err-places.ensures.1 in
-    let e = c.in-err-places.field-0.0 in
+pub returns-in_err-places : goal.returns-in_err-places
+returns-in_err-places g c =
+    let p = err_from_is_err_and c.from_residual-in_err-places.result c.from_residual-in_err-places.ensures.1 in
+    let e = c.in_err-places.field-0.0 in
     let jobs = c.args.jobs.now in
     let n = c.args.n in
     let line = c.args.line.now in
-    let good = c.in-ok-parents.ensures in
+    let good = c.in_ok-parents.ensures in
     rw (p.1, p.2) (first_line g.K.Amount.width g.K.Amount.reading jobs n line good.0 e
-    (by_slice jobs n good.1.0.records (λ m par. First (LineFault m par line) e) c.in-ok-parents.parents good.1.1 c.in-err-places.ensures))
+    (by_slice jobs n good.1.0.records (λ m par. First (LineFault m par line) e) c.in_ok-parents.parents good.1.1 c.in_err-places.ensures))
 
 -- the parents were checked before
-pub returns-in-err-chains : goal.returns-in-err-chains
-returns-in-err-chains g c =
-    let good = c.in-ok-parents.ensures in
-    let e = c.in-err-chains.field-0.0 in
-    absurd (good.0 e (parents (by_slice c.args.jobs.now c.args.n good.1.0.records (λ m par. ParentFault m par e) c.in-ok-parents.parents good.1.1 c.in-err-chains.ensures.deserved)))
+pub returns-in_err-chains : goal.returns-in_err-chains
+returns-in_err-chains g c =
+    let good = c.in_ok-parents.ensures in
+    let e = c.in_err-chains.field-0.0 in
+    absurd (good.0 e (parents (by_slice c.args.jobs.now c.args.n good.1.0.records (λ m par. ParentFault m par e) c.in_ok-parents.parents good.1.1 c.in_err-chains.ensures.deserved)))
 
 pub returns : goal.returns
 returns g c =
     let jobs = c.args.jobs.now in
     let n = c.args.n in
     let line = c.args.line.now in
-    let good = c.in-ok-parents.ensures in
+    let good = c.in_ok-parents.ensures in
     let room = good.1.0.records in
-    let cells = c.in-ok-parents.parents in
-    let places = c.in-ok-places.places in
-    let chains = c.in-ok-chains.chains in
-    let placed = c.in-ok-places.ensures in
-    let chained = by_slice jobs n room (λ m par. ChainedTree m par (λ k. get_or chains.first k 0) (λ k. get_or chains.next k 0)) cells good.1.1 c.in-ok-chains.ensures.1 in (
+    let cells = c.in_ok-parents.parents in
+    let places = c.in_ok-places.places in
+    let chains = c.in_ok-chains.chains in
+    let placed = c.in_ok-places.ensures in
+    let chained = by_slice jobs n room (λ m par. ChainedTree m par (λ k. get_or chains.first k 0) (λ k. get_or chains.next k 0)) cells good.1.1 c.in_ok-chains.ensures.1 in (
       no_fault g.K.Amount.width g.K.Amount.reading jobs n line good.0 (by_slice jobs n room (λ m par. (e : Refusal) → LineFault m par line e → ⊥) cells good.1.1 placed.0),
       record {
         sound = good.1.0;

@@ -9,4 +9,4 @@ regroup n w b h s r l = simp append_assoc
 
 pub returns-in-Told : goal.returns-in-Told
 returns-in-Told c =
-    rw (c.in-Told.is, ← c.named-by-named.ensures, ← c.standing-bench.ensures, ← c.places-held.ensures, regroup) c.format-in-Told.ensures.ok
+    rw (c.in-Told.is, ← c.named_by-named.ensures, ← c.standing-bench.ensures, ← c.places-held.ensures, regroup) c.format-in-Told.ensures.ok

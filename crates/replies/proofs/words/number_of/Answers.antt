@@ -5,34 +5,34 @@ use Rattle.prints.proofs.Numeral.{decimal_zero}
 use Rattle.replies.proofs.Reading.{Read, read_more, read_stopped, unread_none, unread_zero, read_all}
 use Rattle.replies.proofs.words.number_of.Goals as goal
 
-pub returns-in-err-first : goal.returns-in-err-first
-returns-in-err-first c =
-    rw c.from-residual.ensures (λ n e. unread_none n (sym (nil_from_length _ c.in-err-first.ensures.cases) ∙ e))
+pub returns-in_err-first : goal.returns-in_err-first
+returns-in_err-first c =
+    rw c.from_residual.ensures (λ n e. unread_none n (sym (nil_from_length _ c.in_err-first.ensures.cases) ∙ e))
 
-pub returns-then-is-empty : goal.returns-then-is-empty
-returns-then-is-empty c =
-    let none = nil_from_length _ (eqb-true _ _ (sym c.if-is-empty.ensures)) in
-    (0, rw (c.in-ok-first.ensures.cases.0, c.if-first-eq48.true, none) (sym decimal_zero), refl)
+pub returns-then-is_empty : goal.returns-then-is_empty
+returns-then-is_empty c =
+    let none = nil_from_length _ (eqb-true _ _ (sym c.if-is_empty.ensures)) in
+    (0, rw (c.in_ok-first.ensures.cases.0, c.if-first-eq48.true, none) (sym decimal_zero), refl)
 
-pub returns-else-is-empty : goal.returns-else-is-empty
-returns-else-is-empty c n e =
-    let rest = c.in-ok-first.rest.now in
+pub returns-else-is_empty : goal.returns-else-is_empty
+returns-else-is_empty c n e =
+    let rest = c.in_ok-first.rest.now in
     let zero = ap (λ x. x ∷ rest) c.if-first-eq48.true in
-    unread_zero rest n (eqb-false _ _ (sym c.if-is-empty.ensures)) (sym zero ∙ sym c.in-ok-first.ensures.cases.0 ∙ e)
+    unread_zero rest n (eqb-false _ _ (sym c.if-is_empty.ensures)) (sym zero ∙ sym c.in_ok-first.ensures.cases.0 ∙ e)
 
-pub returns-then-not-is-ascii-digit : goal.returns-then-not-is-ascii-digit
-returns-then-not-is-ascii-digit c =
+pub returns-then-not-is_ascii_digit : goal.returns-then-not-is_ascii_digit
+returns-then-not-is_ascii_digit c =
     let i = c.loop-digit.invariant in
-    read_stopped _ i.0 _ c.loop-digit-test.true i.2 (sym c.if-not-is-ascii-digit.ensures.value)
+    read_stopped _ i.0 _ c.loop-digit-test.true i.2 (sym c.if-not-is_ascii_digit.ensures.value)
 
 pub loop-digit-preserved : goal.loop-digit-preserved
 loop-digit-preserved c =
     let i = c.loop-digit.invariant in
-    (_, omega arith, read_more _ i.0 _ c.loop-digit-test.true i.2 (sym c.if-not-is-ascii-digit.ensures.value))
+    (_, omega arith, read_more _ i.0 _ c.loop-digit-test.true i.2 (sym c.if-not-is_ascii_digit.ensures.value))
 
 pub returns : goal.returns
 returns c =
     let i = c.loop-digit.invariant in
-    let is = c.in-ok-first.ensures.cases.0 in
+    let is = c.in_ok-first.ensures.cases.0 in
     let read = subst (Read c.args.digits.now i.0) (drop_all _ _ c.loop-digit-test.false) i.2 in
     (i.0, is ∙ read_all _ _ i.0 c.if-first-eq48.false (subst (λ l. Read l i.0 []) is read), i.1)

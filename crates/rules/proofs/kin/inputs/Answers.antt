@@ -24,19 +24,19 @@ turn g c =
       is = c.index-jobs-child.is;
     }
 
-pub returns-in-err-total : goal.returns-in-err-total
-returns-in-err-total g c = λ n tree own.
+pub returns-in_err-total : goal.returns-in_err-total
+returns-in_err-total g c = λ n tree own.
     let here = c.loop-last in
     let kind : Reads g.K.Amount.width g.K.Amount.reading = record { nothing = g.met.K.Amount.nothing; beyond = g.met.K.Amount.beyond } in
-    let over = c.in-err-total.ensures in
-    let fits = gathered_fits (turn g (goal.at.returns-in-err-total g c).After-index-jobs-child) kind here.total here.invariant.1 n tree own over.0 in
+    let over = c.in_err-total.ensures in
+    let fits = gathered_fits (turn g (goal.at.returns-in_err-total g c).After-index-jobs-child) kind here.total here.invariant.1 n tree own over.0 in
     absurd (omega (arith, over.1))
 
 pub loop-last-preserved : goal.loop-last-preserved
 loop-last-preserved g c =
     let t = turn g (goal.at.loop-last-preserved g c).After-index-jobs-child in
     let here = c.loop-last in
-    let more = c.in-ok-total in
+    let more = c.in_ok-total in
     (comes_next t, gathered_next t here.total more.total here.invariant.1 more.ensures)
 
 pub returns-then-child-eq0 : goal.returns-then-child-eq0

@@ -8,13 +8,13 @@ use Rattle.rules.proofs.kin.startable.Given as given
 use Rattle.rules.proofs.kin.startable.Goals as goal
 use Rattle.rules.proofs.kin.startable.Goals.{After-index-jobs-child}
 
-pub returns-in-default : goal.returns-in-default
-returns-in-default g c = λ n tree own.
+pub returns-in_default : goal.returns-in_default
+returns-in_default g c = λ n tree own.
     let jobs = c.args.jobs.now in
     let job = c.args.job in
     let parent = c.index-jobs-job in
     let stands = state_read jobs n job parent.result own c.if-job-jobs.false parent.is in
-    false_unless _ (λ e. c.in-default.not-Waiting (sym stands ∙ (startable_true n (par_of jobs n) (state_in n jobs) job e).0))
+    false_unless _ (λ e. c.in_default.not-Waiting (sym stands ∙ (startable_true n (par_of jobs n) (state_in n jobs) job e).0))
 
 pub loop-last-init : goal.loop-last-init
 loop-last-init g c =
@@ -34,14 +34,14 @@ turn g c =
       is = c.index-jobs-child.is;
     }
 
-pub returns-in-default-state : goal.returns-in-default-state
-returns-in-default-state g c = λ n tree own.
+pub returns-in_default-state : goal.returns-in_default-state
+returns-in_default-state g c = λ n tree own.
     let jobs = c.args.jobs.now in
     let child = c.loop-last.child in
-    let t = turn g (goal.at.returns-in-default-state g c).After-index-jobs-child in
+    let t = turn g (goal.at.returns-in_default-state g c).After-index-jobs-child in
     let its = turn_child t n tree own in
     let stands = state_read jobs n child c.index-jobs-child.result its.0 t.inside t.is in
-    false_unless _ (λ e. c.in-default-state.not-Done (sym stands ∙ (startable_true n (par_of jobs n) (state_in n jobs) c.args.job e).1 child its.0 its.1))
+    false_unless _ (λ e. c.in_default-state.not-Done (sym stands ∙ (startable_true n (par_of jobs n) (state_in n jobs) c.args.job e).1 child its.0 its.1))
 
 pub loop-last-preserved : goal.loop-last-preserved
 loop-last-preserved g c =

@@ -16,7 +16,7 @@ loop-call-init g c =
 
 pub loop-call-preserved : goal.loop-call-preserved
 loop-call-preserved g c =
-    let more = c.in-ok-push.ensures.items in
+    let more = c.in_ok-push-in-Ok.ensures.items in
     let calls = c.args.calls.now in
     let answers = vec_items c.loop-call.answers in
     let i = c.loop-call.call-index in (
@@ -28,9 +28,9 @@ loop-call-preserved g c =
     )
 
 -- the last call was carried out, and there was no room for its answer
-pub returns-in-err-push : goal.returns-in-err-push
-returns-in-err-push g c =
-    let p = err_from_is_err_and c.from-residual.result c.from-residual.ensures.1 in
+pub returns-in_err-push-in-Ok : goal.returns-in_err-push-in-Ok
+returns-in_err-push-in-Ok g c =
+    let p = err_from_is_err_and c.from_residual.result c.from_residual.ensures.1 in
     let good = c.in-Ok.ensures.judged in
     let calls = c.args.calls.now in
     let answers = vec_items c.loop-call.answers in

@@ -3,18 +3,18 @@ use Rattle.std.proofs.Common.{Ok, Err}
 use Rattle.verdicts.specs.Answered.Answered.{unread, weighed}
 use Rattle.verdicts.proofs.judge.judge.Goals as goal
 
-pub returns-in-err-heading : goal.returns-in-err-heading
-returns-in-err-heading g c =
-    let p = err_from_is_err_and c.from-residual.result c.from-residual.ensures.1 in
-    rw (p.1, p.2) (unread c.in-err-heading.field-0.0 c.in-err-heading.ensures.told.0)
+pub returns-in_err-heading : goal.returns-in_err-heading
+returns-in_err-heading g c =
+    let p = err_from_is_err_and c.from_residual.result c.from_residual.ensures.1 in
+    rw (p.1, p.2) (unread c.in_err-heading.field-0.0 c.in_err-heading.ensures.told.0)
 
-pub returns-in-err-peak : goal.returns-in-err-peak
-returns-in-err-peak g c =
-    let p = err_from_is_err_and c.from-residual-in-err-peak.result c.from-residual-in-err-peak.ensures.1 in
-    let granted = c.in-ok-heading.ensures.told in
-    rw (p.1, p.2) (weighed c.in-ok-heading.heading c.read.new.records (Err c.in-err-peak.field-0.0) granted.good c.in-err-peak.ensures)
+pub returns-in_err-peak : goal.returns-in_err-peak
+returns-in_err-peak g c =
+    let p = err_from_is_err_and c.from_residual-in_err-peak.result c.from_residual-in_err-peak.ensures.1 in
+    let granted = c.in_ok-heading.ensures.told in
+    rw (p.1, p.2) (weighed c.in_ok-heading.heading c.read.new.records (Err c.in_err-peak.field-0.0) granted.good c.in_err-peak.ensures)
 
 pub returns : goal.returns
 returns g c =
-    let granted = c.in-ok-heading.ensures.told in
-    weighed c.in-ok-heading.heading c.read.new.records (Ok c.in-ok-peak.peak) granted.good c.in-ok-peak.ensures
+    let granted = c.in_ok-heading.ensures.told in
+    weighed c.in_ok-heading.heading c.read.new.records (Ok c.in_ok-peak.peak) granted.good c.in_ok-peak.ensures

@@ -6,14 +6,14 @@ use Rattle.boards.specs.Course.Course.{opens}
 use Rattle.boards.specs.Faults.OpenFault.{unbenched, unfloored, unruled, exceeded}
 use Rattle.boards.proofs.board.Board.open.Goals as goal
 
-pub returns-in-err-survey : goal.returns-in-err-survey
-returns-in-err-survey g c =
-    let p = err_from_is_err_and c.from-residual.result c.from-residual.ensures.1 in
-    record { judged = rw (p.1, p.2) c.in-err-survey.ensures; still = rw p.1 (refl, refl) }
+pub returns-in_err-survey : goal.returns-in_err-survey
+returns-in_err-survey g c =
+    let p = err_from_is_err_and c.from_residual.result c.from_residual.ensures.1 in
+    record { judged = rw (p.1, p.2) c.in_err-survey.ensures; still = rw p.1 (refl, refl) }
 
 pub returns : goal.returns
 returns g c =
-    let good = c.in-ok-survey.ensures in
+    let good = c.in_ok-survey.ensures in
     let survey = good.1 in
     let some : 1 ≤ c.args.benches = elim (cases_lt 0 c.args.benches) [ inl h ↦ h | inr h ↦ absurd (good.0 _ (unbenched (inl (omega arith)))) ] in
     let few : c.args.benches ≤ 64 = elim (cases_lt 64 c.args.benches) [ inl h ↦ absurd (good.0 _ (unbenched (inr h))) | inr h ↦ h ] in

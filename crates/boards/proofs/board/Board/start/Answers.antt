@@ -7,26 +7,26 @@ use Rattle.boards.specs.Listed.StartListed.{outside, busy, all_started, none_nam
 use Rattle.boards.proofs.Answering.{some_from, none_from, seat_at, reached, refused, few_benches, none_left, named_runs, started}
 use Rattle.boards.proofs.board.Board.start.Goals as goal
 
-pub returns-in-default : goal.returns-in-default
-returns-in-default g c =
+pub returns-in_default : goal.returns-in_default
+returns-in_default g c =
     record {
       outside = λ h. refl;
       listed = outside;
       still = (refl, refl);
       follows = λ o l led.
           let few = few_benches g.met.R.Rule.safe g.met.R.Rule.willing c.args.self.now led in
-          refused g.met.R.Rule.safe g.met.R.Rule.willing c.args.self.now led (Start c.args.bench) BenchUnknown (start_outside c.args.bench (λ i. c.in-default.ensures i (omega arith)));
+          refused g.met.R.Rule.safe g.met.R.Rule.willing c.args.self.now led (Start c.args.bench) BenchUnknown (start_outside c.args.bench (λ i. c.in_default.ensures i (omega arith)));
     }
 
-pub returns-then-is-some : goal.returns-then-is-some
-returns-then-is-some g c =
+pub returns-then-is_some : goal.returns-then-is_some
+returns-then-is_some g c =
     let at = c.in-Some.ensures in
     record {
       outside = λ h. absurd (h at.1);
       listed = busy;
       still = (refl, refl);
       follows = λ o l led.
-          let seated = some_from _ c.if-is-some.ensures in
+          let seated = some_from _ c.if-is_some.ensures in
           refused g.met.R.Rule.safe g.met.R.Rule.willing c.args.self.now led (Start c.args.bench) (BenchBusy c.args.bench) (start_busy c.args.bench seated.0 at.1 (ap (λ p. get_or c.args.self.now.hall.table p None) (sym at.0) ∙ seated.1));
     }
 
@@ -38,11 +38,11 @@ returns-then-self g c =
       listed = all_started;
       still = (refl, refl);
       follows = λ o l led.
-          none_left g.met.R.Rule.safe g.met.R.Rule.willing c.args.self.now led c.args.bench at.1 (ap (λ p. get_or c.args.self.now.hall.table p None) (sym at.0) ∙ none_from _ c.if-is-some.ensures) c.if-self.true;
+          none_left g.met.R.Rule.safe g.met.R.Rule.willing c.args.self.now led c.args.bench at.1 (ap (λ p. get_or c.args.self.now.hall.table p None) (sym at.0) ∙ none_from _ c.if-is_some.ensures) c.if-self.true;
     }
 
-pub returns-in-default-name : goal.returns-in-default-name
-returns-in-default-name g c =
+pub returns-in_default-name : goal.returns-in_default-name
+returns-in_default-name g c =
     let at = c.in-Some.ensures in
     record {
       outside = λ h. absurd (h at.1);
@@ -50,11 +50,11 @@ returns-in-default-name g c =
       still = (refl, refl);
       follows = λ o l led.
           refused g.met.R.Rule.safe g.met.R.Rule.willing c.args.self.now led (Start c.args.bench) (NoneNamed c.args.bench)
-          (start_none_named c.args.bench at.1 (ap (λ p. get_or c.args.self.now.hall.table p None) (sym at.0) ∙ none_from _ c.if-is-some.ensures) c.if-self.false (sym (c.in-default-name.ensures (reached g.met.R.Rule.safe g.met.R.Rule.willing c.args.self.now led))));
+          (start_none_named c.args.bench at.1 (ap (λ p. get_or c.args.self.now.hall.table p None) (sym at.0) ∙ none_from _ c.if-is_some.ensures) c.if-self.false (sym (c.in_default-name.ensures (reached g.met.R.Rule.safe g.met.R.Rule.willing c.args.self.now led))));
     }
 
-pub returns-in-default-held-with : goal.returns-in-default-held-with
-returns-in-default-held-with g c =
+pub returns-in_default-held_with : goal.returns-in_default-held_with
+returns-in_default-held_with g c =
     let at = c.in-Some.ensures in
     record {
       outside = λ h. absurd (h at.1);
@@ -62,7 +62,7 @@ returns-in-default-held-with g c =
       still = (refl, refl);
       follows = λ o l led.
           let named = c.in-Some-name.ensures (reached g.met.R.Rule.safe g.met.R.Rule.willing c.args.self.now led) in
-          absurd (c.in-default-held-with.ensures (named_runs g.met.R.Rule.safe g.met.R.Rule.willing c.args.self.now led g.met.K.Amount.bounded c.in-Some-name.job (sym named)));
+          absurd (c.in_default-held_with.ensures (named_runs g.met.R.Rule.safe g.met.R.Rule.willing c.args.self.now led g.met.K.Amount.bounded c.in-Some-name.job (sym named)));
     }
 
 pub returns : goal.returns
@@ -74,8 +74,8 @@ returns g c =
       still = tt;
       follows = λ o l led.
           let named = c.in-Some-name.ensures (reached g.met.R.Rule.safe g.met.R.Rule.willing c.args.self.now led) in
-          let held = c.in-Some-held-with.ensures in
-          started g.met.R.Rule.safe g.met.R.Rule.willing c.args.self.now led c.args.bench c.in-Some-name.job c.in-Some-held-with.held at.1 _ c.restate.new.jobs c.started.new.jobs c.started.new.self
-          (ap (λ p. get_or c.args.self.now.hall.table p None) (sym at.0) ∙ none_from _ c.if-is-some.ensures) (sym named) held.2
-          (seat_at c.args.self.now.hall c.in-Some.place c.args.bench c.in-Some-name.job c.in-Some-held-with.held at.0) c.restate.ensures c.started.ensures.told c.started.ensures.kept;
+          let held = c.in-Some-held_with.ensures in
+          started g.met.R.Rule.safe g.met.R.Rule.willing c.args.self.now led c.args.bench c.in-Some-name.job c.in-Some-held_with.held at.1 _ c.restate.new.jobs c.started.new.jobs c.started.new.self
+          (ap (λ p. get_or c.args.self.now.hall.table p None) (sym at.0) ∙ none_from _ c.if-is_some.ensures) (sym named) held.2
+          (seat_at c.args.self.now.hall c.in-Some.place c.args.bench c.in-Some-name.job c.in-Some-held_with.held at.0) c.restate.ensures c.started.ensures.told c.started.ensures.kept;
     }

@@ -38,13 +38,13 @@ before g c =
       on = λ ax k f s. subst (λ l. Stands ax r.bytes.now c.loop-axis.self.pos (l ++ k)) e (i.3 ax k f s);
     }
 
-pub returns-in-err-value : goal.returns-in-err-value
-returns-in-err-value g c =
-    let p = err_from_is_err_and c.from-residual.result c.from-residual.ensures.1 in
-    let s = before g (goal.at.returns-in-err-value g c).After-number in
+pub returns-in_err-value : goal.returns-in_err-value
+returns-in_err-value g c =
+    let p = err_from_is_err_and c.from_residual.result c.from_residual.ensures.1 in
+    let s = before g (goal.at.returns-in_err-value g c).After-number in
     let a = c.loop-axis.axis + 1 in
     let m = c.args.bound in
-    record { same = c.number.ensures.same ∙ s.same; reads = rw (p.1, p.2) (sofar_stop (byte c.mark.result ∷ number m ∷ []) (left g a m) s Apart (λ k f. left_apart (mark_of a) _ m k (mark_digit a) f) _ c.in-err-value.ensures.reads); held = rw p.1 tt }
+    record { same = c.number.ensures.same ∙ s.same; reads = rw (p.1, p.2) (sofar_stop (byte c.mark.result ∷ number m ∷ []) (left g a m) s Apart (λ k f. left_apart (mark_of a) _ m k (mark_digit a) f) _ c.in_err-value.ensures.reads); held = rw p.1 tt }
 
 pub loop-axis-preserved : goal.loop-axis-preserved
 loop-axis-preserved g c =
@@ -52,9 +52,9 @@ loop-axis-preserved g c =
     let read = g.K.Amount.reading in
     let a = c.loop-axis.axis in
     let m = c.args.bound in
-    let v = c.in-ok-value.value in
+    let v = c.in_ok-value.value in
     let xs = front read (a - 1) c.loop-axis.amount in
-    let e = c.in-ok-value.ensures in
+    let e = c.in_ok-value.ensures in
     let one : 1 ≤ a = omega (arith, c.loop-axis.auto.axis) in
     let size : length xs + 1 ≡ a = omega (arith, length-map-range_with_len (read c.loop-axis.amount) 1 (a - 1)) in
     let back : a + 1 - 1 ≡ a = omega arith in

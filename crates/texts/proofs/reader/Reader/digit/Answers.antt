@@ -27,5 +27,5 @@ returns-else-b-ge48 c =
     let none : digit c.in-Some.b ≡ false = elim c.else-b-ge48.either [ inl h ↦ high c.in-Some.b h.1 | inr h ↦ low c.in-Some.b h ] in
     record { same = refl; reads = (refl, ap digit (sym c.in-Some.ensures.1) ∙ none) }
 
-pub returns-in-default : goal.returns-in-default
-returns-in-default c = let r = c.args.self.now in record { same = refl; reads = (refl, ap digit (get_or_past r.bytes.now r.pos 0 (omega (arith, c.in-default.ensures)))) }
+pub returns-in_default : goal.returns-in_default
+returns-in_default c = let r = c.args.self.now in record { same = refl; reads = (refl, ap digit (get_or_past r.bytes.now r.pos 0 (omega (arith, c.in_default.ensures)))) }

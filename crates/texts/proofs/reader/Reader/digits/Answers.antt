@@ -4,8 +4,8 @@ use Rattle.texts.specs.Steps.{Moved}
 use Rattle.texts.proofs.Taking.{number_first, number_read, number_over, number_more, number_refused, moved_at}
 use Rattle.texts.proofs.reader.Reader.digits.Goals as goal
 
-pub returns-in-default : goal.returns-in-default
-returns-in-default c = record { same = c.digit.ensures.same; reads = λ ax k a s. number_refused c.args.self.now _ c.args.bound refl c.in-default.ensures.reads.1 ax k s; bounded = tt }
+pub returns-in_default : goal.returns-in_default
+returns-in_default c = record { same = c.digit.ensures.same; reads = λ ax k a s. number_refused c.args.self.now _ c.args.bound refl c.in_default.ensures.reads.1 ax k s; bounded = tt }
 
 pub returns-then-first-eq0 : goal.returns-then-first-eq0
 returns-then-first-eq0 c =
@@ -22,10 +22,10 @@ loop-value-init c =
     let ne = c.if-first-eq0.false in
     (grind arith, refl, λ p h. moved_at (ap (λ b. b.now) c.digit.ensures.same) (omega (arith, h, e.1)) (number_first r.bytes.now r.pos _ _ e.2 e.0 e.3 e.1 (inr ne)))
 
-pub returns-in-default-digit : goal.returns-in-default-digit
-returns-in-default-digit c =
+pub returns-in_default-digit : goal.returns-in_default-digit
+returns-in_default-digit c =
     let r = c.args.self.now in
-    let e = c.in-default-digit.ensures in
+    let e = c.in_default-digit.ensures in
     let same = c.loop-value.invariant.1 ∙ c.digit.ensures.same in
     let bytes = ap (λ b. b.now) same in
     let m : Moved r.bytes.now r.pos c.digit-in-loop-value.new.self.pos (decimal c.loop-value.value) = subst (λ q. Moved r.bytes.now r.pos q (decimal c.loop-value.value)) (sym e.reads.0) (moved_at (ap (λ b. b.now) (sym c.digit.ensures.same)) refl (c.loop-value.invariant.2 r.pos (sym c.in-Some.ensures.reads.1))) in

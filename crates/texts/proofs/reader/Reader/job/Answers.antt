@@ -10,7 +10,7 @@ use Rattle.texts.proofs.Axes.{field_apart}
 use Rattle.texts.proofs.Chain.{Sofar, sofar_start, sofar_on, sofar_stop, six}
 use Rattle.texts.proofs.reader.Reader.job.Given as given
 use Rattle.texts.proofs.reader.Reader.job.Goals as goal
-use Rattle.texts.proofs.reader.Reader.job.Goals.{In-ok-word, In-ok-parent, In-ok-work, In-ok-output, In-ok-minutes}
+use Rattle.texts.proofs.reader.Reader.job.Goals.{In_ok-word, In_ok-parent, In_ok-work, In_ok-output, In_ok-minutes}
 
 -- what is left from each part on
 abbrev word : List Part
@@ -38,72 +38,72 @@ abbrev So : (g : given.Over) → Reader → Reader → List Part → List ℕ �
 So g r₀ r rest xs = Sofar Any r₀ r (job_parts g.K.Amount.width) rest xs
 
 -- after each part
-so_word : (g : given.Over) (c : In-ok-word g) → So g c.args.self.now c.word.new.self (parent_on g.K.Amount.width) (codes "job")
+so_word : (g : given.Over) (c : In_ok-word g) → So g c.args.self.now c.word.new.self (parent_on g.K.Amount.width) (codes "job")
 so_word g c =
-    let e = c.in-ok-word.ensures in
+    let e = c.in_ok-word.ensures in
     let n = g.K.Amount.width in
     sofar_on word (parent_on n) (sofar_start Any c.args.self.now (job_parts n)) Any (λ k f. tt) c.word.new.self e.same e.reads
 
-so_parent : (g : given.Over) (c : In-ok-parent g) {xs : List ℕ} → So g c.args.self.now c.word.new.self (parent_on g.K.Amount.width) xs → So g c.args.self.now c.number.new.self (work_on g.K.Amount.width) (xs ++ (32 ∷ decimal c.in-ok-parent.parent))
+so_parent : (g : given.Over) (c : In_ok-parent g) {xs : List ℕ} → So g c.args.self.now c.word.new.self (parent_on g.K.Amount.width) xs → So g c.args.self.now c.number.new.self (work_on g.K.Amount.width) (xs ++ (32 ∷ decimal c.in_ok-parent.parent))
 so_parent g c s =
-    let e = c.in-ok-parent.ensures in
+    let e = c.in_ok-parent.ensures in
     let n = g.K.Amount.width in
     sofar_on (byte 32 ∷ number 4095 ∷ []) (work_on n) s Apart (λ k f. work_apart n k) c.number.new.self e.same e.reads
 
-so_work : (g : given.Over) (c : In-ok-work g) {xs : List ℕ} → So g c.args.self.now c.number.new.self (work_on g.K.Amount.width) xs → So g c.args.self.now c.amount.new.self (output_on g.K.Amount.width) (xs ++ marked 32 (front g.K.Amount.reading g.K.Amount.width c.in-ok-work.work))
+so_work : (g : given.Over) (c : In_ok-work g) {xs : List ℕ} → So g c.args.self.now c.number.new.self (work_on g.K.Amount.width) xs → So g c.args.self.now c.amount.new.self (output_on g.K.Amount.width) (xs ++ marked 32 (front g.K.Amount.reading g.K.Amount.width c.in_ok-work.work))
 so_work g c s =
-    let e = c.in-ok-work.ensures in
+    let e = c.in_ok-work.ensures in
     let n = g.K.Amount.width in
     sofar_on (amount_parts 32 n 1000000) (output_on n) s Apart (λ k f. output_apart n k) c.amount.new.self e.same e.reads
 
-so_output : (g : given.Over) (c : In-ok-output g) {xs : List ℕ} → So g c.args.self.now c.amount.new.self (output_on g.K.Amount.width) xs → So g c.args.self.now c.amount-2.new.self minutes_on (xs ++ marked 32 (front g.K.Amount.reading g.K.Amount.width c.in-ok-output.output))
-so_output g c s = let e = c.in-ok-output.ensures in sofar_on (amount_parts 32 g.K.Amount.width 1000000) minutes_on s Apart (λ k f. refl) c.amount-2.new.self e.same e.reads
+so_output : (g : given.Over) (c : In_ok-output g) {xs : List ℕ} → So g c.args.self.now c.amount.new.self (output_on g.K.Amount.width) xs → So g c.args.self.now c.amount-2.new.self minutes_on (xs ++ marked 32 (front g.K.Amount.reading g.K.Amount.width c.in_ok-output.output))
+so_output g c s = let e = c.in_ok-output.ensures in sofar_on (amount_parts 32 g.K.Amount.width 1000000) minutes_on s Apart (λ k f. refl) c.amount-2.new.self e.same e.reads
 
-so_minutes : (g : given.Over) (c : In-ok-minutes g) {xs : List ℕ} → So g c.args.self.now c.amount-2.new.self minutes_on xs → So g c.args.self.now c.number-2.new.self (byte 10 ∷ []) (xs ++ (32 ∷ decimal c.in-ok-minutes.minutes))
-so_minutes g c s = let e = c.in-ok-minutes.ensures in sofar_on (byte 32 ∷ number 10000 ∷ []) (byte 10 ∷ []) s Apart (λ k f. refl) c.number-2.new.self e.same e.reads
+so_minutes : (g : given.Over) (c : In_ok-minutes g) {xs : List ℕ} → So g c.args.self.now c.amount-2.new.self minutes_on xs → So g c.args.self.now c.number-2.new.self (byte 10 ∷ []) (xs ++ (32 ∷ decimal c.in_ok-minutes.minutes))
+so_minutes g c s = let e = c.in_ok-minutes.ensures in sofar_on (byte 32 ∷ number 10000 ∷ []) (byte 10 ∷ []) s Apart (λ k f. refl) c.number-2.new.self e.same e.reads
 
-pub returns-in-err-word : goal.returns-in-err-word
-returns-in-err-word g c =
-    let p = err_from_is_err_and c.from-residual.result c.from-residual.ensures.1 in
+pub returns-in_err-word : goal.returns-in_err-word
+returns-in_err-word g c =
+    let p = err_from_is_err_and c.from_residual.result c.from_residual.ensures.1 in
     let n = g.K.Amount.width in
     let s = sofar_start Any c.args.self.now (job_parts n) in
-    record { same = c.word.ensures.same; reads = rw (p.1, p.2) (sofar_stop word (parent_on n) s Any (λ k f. tt) _ c.in-err-word.ensures.reads); held = rw p.1 tt; fresh = rw p.1 tt }
+    record { same = c.word.ensures.same; reads = rw (p.1, p.2) (sofar_stop word (parent_on n) s Any (λ k f. tt) _ c.in_err-word.ensures.reads); held = rw p.1 tt; fresh = rw p.1 tt }
 
-pub returns-in-err-parent : goal.returns-in-err-parent
-returns-in-err-parent g c =
-    let p = err_from_is_err_and c.from-residual-in-err-parent.result c.from-residual-in-err-parent.ensures.1 in
+pub returns-in_err-parent : goal.returns-in_err-parent
+returns-in_err-parent g c =
+    let p = err_from_is_err_and c.from_residual-in_err-parent.result c.from_residual-in_err-parent.ensures.1 in
     let n = g.K.Amount.width in
-    let s = so_word g (goal.at.returns-in-err-parent g c).In-ok-word in
-    record { same = c.number.ensures.same ∙ s.same; reads = rw (p.1, p.2) (sofar_stop (byte 32 ∷ number 4095 ∷ []) (work_on n) s Apart (λ k f. work_apart n k) _ c.in-err-parent.ensures.reads); held = rw p.1 tt; fresh = rw p.1 tt }
+    let s = so_word g (goal.at.returns-in_err-parent g c).In_ok-word in
+    record { same = c.number.ensures.same ∙ s.same; reads = rw (p.1, p.2) (sofar_stop (byte 32 ∷ number 4095 ∷ []) (work_on n) s Apart (λ k f. work_apart n k) _ c.in_err-parent.ensures.reads); held = rw p.1 tt; fresh = rw p.1 tt }
 
-pub returns-in-err-work : goal.returns-in-err-work
-returns-in-err-work g c =
-    let p = err_from_is_err_and c.from-residual-in-err-work.result c.from-residual-in-err-work.ensures.1 in
+pub returns-in_err-work : goal.returns-in_err-work
+returns-in_err-work g c =
+    let p = err_from_is_err_and c.from_residual-in_err-work.result c.from_residual-in_err-work.ensures.1 in
     let n = g.K.Amount.width in
-    let at = goal.at.returns-in-err-work g c in
-    let s = so_parent g at.In-ok-parent (so_word g at.In-ok-word) in
-    record { same = c.amount.ensures.same ∙ s.same; reads = rw (p.1, p.2) (sofar_stop (amount_parts 32 n 1000000) (output_on n) s Apart (λ k f. output_apart n k) _ c.in-err-work.ensures.reads); held = rw p.1 tt; fresh = rw p.1 tt }
+    let at = goal.at.returns-in_err-work g c in
+    let s = so_parent g at.In_ok-parent (so_word g at.In_ok-word) in
+    record { same = c.amount.ensures.same ∙ s.same; reads = rw (p.1, p.2) (sofar_stop (amount_parts 32 n 1000000) (output_on n) s Apart (λ k f. output_apart n k) _ c.in_err-work.ensures.reads); held = rw p.1 tt; fresh = rw p.1 tt }
 
-pub returns-in-err-output : goal.returns-in-err-output
-returns-in-err-output g c =
-    let p = err_from_is_err_and c.from-residual-in-err-output.result c.from-residual-in-err-output.ensures.1 in
-    let at = goal.at.returns-in-err-output g c in
-    let s = so_work g at.In-ok-work (so_parent g at.In-ok-parent (so_word g at.In-ok-word)) in
-    record { same = c.amount-2.ensures.same ∙ s.same; reads = rw (p.1, p.2) (sofar_stop (amount_parts 32 g.K.Amount.width 1000000) minutes_on s Apart (λ k f. refl) _ c.in-err-output.ensures.reads); held = rw p.1 tt; fresh = rw p.1 tt }
+pub returns-in_err-output : goal.returns-in_err-output
+returns-in_err-output g c =
+    let p = err_from_is_err_and c.from_residual-in_err-output.result c.from_residual-in_err-output.ensures.1 in
+    let at = goal.at.returns-in_err-output g c in
+    let s = so_work g at.In_ok-work (so_parent g at.In_ok-parent (so_word g at.In_ok-word)) in
+    record { same = c.amount-2.ensures.same ∙ s.same; reads = rw (p.1, p.2) (sofar_stop (amount_parts 32 g.K.Amount.width 1000000) minutes_on s Apart (λ k f. refl) _ c.in_err-output.ensures.reads); held = rw p.1 tt; fresh = rw p.1 tt }
 
-pub returns-in-err-minutes : goal.returns-in-err-minutes
-returns-in-err-minutes g c =
-    let p = err_from_is_err_and c.from-residual-in-err-minutes.result c.from-residual-in-err-minutes.ensures.1 in
-    let at = goal.at.returns-in-err-minutes g c in
-    let s = so_output g at.In-ok-output (so_work g at.In-ok-work (so_parent g at.In-ok-parent (so_word g at.In-ok-word))) in
-    record { same = c.number-2.ensures.same ∙ s.same; reads = rw (p.1, p.2) (sofar_stop (byte 32 ∷ number 10000 ∷ []) (byte 10 ∷ []) s Apart (λ k f. refl) _ c.in-err-minutes.ensures.reads); held = rw p.1 tt; fresh = rw p.1 tt }
+pub returns-in_err-minutes : goal.returns-in_err-minutes
+returns-in_err-minutes g c =
+    let p = err_from_is_err_and c.from_residual-in_err-minutes.result c.from_residual-in_err-minutes.ensures.1 in
+    let at = goal.at.returns-in_err-minutes g c in
+    let s = so_output g at.In_ok-output (so_work g at.In_ok-work (so_parent g at.In_ok-parent (so_word g at.In_ok-word))) in
+    record { same = c.number-2.ensures.same ∙ s.same; reads = rw (p.1, p.2) (sofar_stop (byte 32 ∷ number 10000 ∷ []) (byte 10 ∷ []) s Apart (λ k f. refl) _ c.in_err-minutes.ensures.reads); held = rw p.1 tt; fresh = rw p.1 tt }
 
-pub returns-in-err-line-end : goal.returns-in-err-line-end
-returns-in-err-line-end g c =
-    let p = err_from_is_err_and c.from-residual-in-err-line-end.result c.from-residual-in-err-line-end.ensures.1 in
-    let at = goal.at.returns-in-err-line-end g c in
-    let s = so_minutes g at.In-ok-minutes (so_output g at.In-ok-output (so_work g at.In-ok-work (so_parent g at.In-ok-parent (so_word g at.In-ok-word)))) in
-    record { same = c.line-end.ensures.same ∙ s.same; reads = rw (p.1, p.2) (sofar_stop (byte 10 ∷ []) [] s Any (λ k f. tt) _ c.in-err-line-end.ensures.reads); held = rw p.1 tt; fresh = rw p.1 tt }
+pub returns-in_err-line_end : goal.returns-in_err-line_end
+returns-in_err-line_end g c =
+    let p = err_from_is_err_and c.from_residual-in_err-line_end.result c.from_residual-in_err-line_end.ensures.1 in
+    let at = goal.at.returns-in_err-line_end g c in
+    let s = so_minutes g at.In_ok-minutes (so_output g at.In_ok-output (so_work g at.In_ok-work (so_parent g at.In_ok-parent (so_word g at.In_ok-word)))) in
+    record { same = c.line_end.ensures.same ∙ s.same; reads = rw (p.1, p.2) (sofar_stop (byte 10 ∷ []) [] s Any (λ k f. tt) _ c.in_err-line_end.ensures.reads); held = rw p.1 tt; fresh = rw p.1 tt }
 
 pub returns : goal.returns
 returns g c =
@@ -111,15 +111,15 @@ returns g c =
     let r = c.args.self.now in
     let read = g.K.Amount.reading in
     let n = g.K.Amount.width in
-    let s = so_minutes g at.In-ok-minutes (so_output g at.In-ok-output (so_work g at.In-ok-work (so_parent g at.In-ok-parent (so_word g at.In-ok-word)))) in
-    let e = c.in-ok-line-end.ensures in
-    let t = sofar_on (byte 10 ∷ []) [] s Any (λ k f. tt) c.line-end.new.self e.same e.reads in
-    let line : JobLine = record { parent = c.in-ok-parent.parent; work = front read n c.in-ok-work.work; output = front read n c.in-ok-output.output; minutes = c.in-ok-minutes.minutes } in
+    let s = so_minutes g at.In_ok-minutes (so_output g at.In_ok-output (so_work g at.In_ok-work (so_parent g at.In_ok-parent (so_word g at.In_ok-word)))) in
+    let e = c.in_ok-line_end.ensures in
+    let t = sofar_on (byte 10 ∷ []) [] s Any (λ k f. tt) c.line_end.new.self e.same e.reads in
+    let line : JobLine = record { parent = c.in_ok-parent.parent; work = front read n c.in_ok-work.work; output = front read n c.in_ok-output.output; minutes = c.in_ok-minutes.minutes } in
     let j = c.new.ensures in
     let is : line ≡ line_of read n c.new.result = λ i. record { parent = sym j.typed.0 i; work = front read n (sym j.typed.1.0 i); output = front read n (sym j.typed.1.1.0 i); minutes = sym j.typed.1.1.1 i } in
     record {
       same = t.same;
-      reads = (subst (λ l. Moved r.bytes.now r.pos c.line-end.new.self.pos (lines (l ∷ []))) is (subst (Moved r.bytes.now r.pos c.line-end.new.self.pos) (six (codes "job") (32 ∷ decimal line.parent) (marked 32 line.work) (marked 32 line.output) (32 ∷ decimal line.minutes) (10 ∷ [])) t.moved), t.on);
-      held = subst (LineHeld n true) is (record { parent = c.in-ok-parent.ensures.bounded; work = c.in-ok-work.ensures.held; output = c.in-ok-output.ensures.held; minutes = c.in-ok-minutes.ensures.bounded });
+      reads = (subst (λ l. Moved r.bytes.now r.pos c.line_end.new.self.pos (lines (l ∷ []))) is (subst (Moved r.bytes.now r.pos c.line_end.new.self.pos) (six (codes "job") (32 ∷ decimal line.parent) (marked 32 line.work) (marked 32 line.output) (32 ∷ decimal line.minutes) (10 ∷ [])) t.moved), t.on);
+      held = subst (LineHeld n true) is (record { parent = c.in_ok-parent.ensures.bounded; work = c.in_ok-work.ensures.held; output = c.in_ok-output.ensures.held; minutes = c.in_ok-minutes.ensures.bounded });
       fresh = record { first = j.links.0; next = j.links.1.0; position = j.links.1.1; state = j.waits; share = j.booked.0; booked = j.booked.1 };
     }

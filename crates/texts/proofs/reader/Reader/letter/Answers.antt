@@ -1,7 +1,7 @@
 use Rattle.std.proofs.Common.{sym, refl, ◌∙◌, inl, inr, arith}
 use Rattle.texts.proofs.Taking.{letter_read, letter_refused}
 use Rattle.texts.proofs.reader.Reader.letter.Goals as goal
-use Rattle.texts.proofs.reader.Reader.letter.Goals.{in-default, in-Some+else-b-eq76+else-b-eq66}
+use Rattle.texts.proofs.reader.Reader.letter.Goals.{in_default, in-Some+else-b-eq76+else-b-eq66}
 
 pub returns-then-b-eq76 : goal.returns-then-b-eq76
 returns-then-b-eq76 c =
@@ -20,6 +20,6 @@ returns c =
       reads = letter_refused c.args.self.now c.unfit.result c.unfit.ensures
           (λ lt l. elim c.match-next.branch [
             | in-Some+else-b-eq76+else-b-eq66 w ↦ elim l [ inl e ↦ w.if-b-eq76.false (w.in-Some.ensures.1 ∙ e) | inr e ↦ w.if-b-eq66.false (w.in-Some.ensures.1 ∙ e) ]
-            | in-default w ↦ omega (arith, w.in-default.ensures)
+            | in_default w ↦ omega (arith, w.in_default.ensures)
           ]);
     }

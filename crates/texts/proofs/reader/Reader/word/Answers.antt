@@ -17,16 +17,16 @@ so c =
       on = λ ax k f s. subst (λ l. Stands ax r.bytes.now c.loop-b.self.pos (map byte l ++ k)) (drop_more c.args.w.now c.loop-b.b-index 0 c.loop-b-test.true) (c.loop-b.invariant.2 ax k s);
     }
 
-pub returns-in-err-byte : goal.returns-in-err-byte
-returns-in-err-byte c =
-    let p = err_from_is_err_and c.from-residual.result c.from-residual.ensures.1 in
-    let s = so (goal.at.returns-in-err-byte c).After-byte in
-    record { same = c.byte.ensures.same ∙ s.same; reads = rw (p.1, p.2) (sofar_stop (byte (get_or c.args.w.now c.loop-b.b-index 0) ∷ []) _ s Any (λ k f. tt) _ c.in-err-byte.ensures.reads) }
+pub returns-in_err-byte : goal.returns-in_err-byte
+returns-in_err-byte c =
+    let p = err_from_is_err_and c.from_residual.result c.from_residual.ensures.1 in
+    let s = so (goal.at.returns-in_err-byte c).After-byte in
+    record { same = c.byte.ensures.same ∙ s.same; reads = rw (p.1, p.2) (sofar_stop (byte (get_or c.args.w.now c.loop-b.b-index 0) ∷ []) _ s Any (λ k f. tt) _ c.in_err-byte.ensures.reads) }
 
 pub loop-b-preserved : goal.loop-b-preserved
 loop-b-preserved c =
     let r = c.args.self.now in
-    let s = sofar_on (byte (get_or c.args.w.now c.loop-b.b-index 0) ∷ []) _ (so (goal.at.loop-b-preserved c).After-byte) Any (λ k f. tt) c.byte.new.self c.in-ok-byte.ensures.same c.in-ok-byte.ensures.reads in
+    let s = sofar_on (byte (get_or c.args.w.now c.loop-b.b-index 0) ∷ []) _ (so (goal.at.loop-b-preserved c).After-byte) Any (λ k f. tt) c.byte.new.self c.in_ok-byte.ensures.same c.in_ok-byte.ensures.reads in
     (s.same, subst (Moved r.bytes.now r.pos c.byte.new.self.pos) (sym (take_more c.args.w.now c.loop-b.b-index 0 c.loop-b-test.true)) s.moved, λ ax k. s.on ax k tt)
 
 pub returns : goal.returns

@@ -1,10 +1,10 @@
 -- What the calls of a board that a log led to answer, and what they leave.
-use Rattle.std.proofs.Common.{◌≡◌, ℕ, ◌+◌, ◌-◌, ◌<◌, ◌≤◌, true, false, not, ◌⊎◌, List, [], ◌∷◌, ◌++◌, map, length, get_or, set, is_some, Some, None, Option, sym, refl, ap, ◌∙◌, subst, inl, inr, arith}
+use Rattle.std.proofs.Common.{◌≡◌, ℕ, ◌+◌, ◌-◌, ◌<◌, ◌≤◌, true, false, not, List, [], ◌∷◌, ◌++◌, map, length, get_or, set, is_some, Some, None, Option, sym, refl, ap, ◌∙◌, subst, arith}
 use Rattle.std.proofs.lemmas.Bool.{true≢false}
 use Rattle.std.proofs.lemmas.List.{get_or_default, length-map}
 use Rattle.amounts.specs.Axes.{most}
 use Rattle.refusals.specs.declared.Refusal.{Refusal}
-use Rattle.refusals.specs.declared.Refusal.TheVariants.{AllStarted, NoneNamed}
+use Rattle.refusals.specs.declared.Refusal.TheVariants.{AllStarted}
 use Rattle.trees.specs.Sums.{In}
 use Rattle.jobs.specs.declared.Job.{Job}
 use Rattle.jobs.specs.declared.State.{State}
@@ -16,7 +16,7 @@ use Rattle.logs.specs.declared.call.Sight.{Sight}
 use Rattle.logs.specs.declared.call.Tally.{Tally}
 use Rattle.logs.specs.declared.call.Answer.{Answer}
 use Rattle.logs.specs.declared.call.Answer.TheVariants.{Started, Done as Ended, Told, Refused}
-use Rattle.logs.specs.Stands.{Opened, is_waiting, is_done, Ready}
+use Rattle.logs.specs.Stands.{Opened, is_waiting, is_done}
 use Rattle.logs.specs.Logs.{Event, event}
 use Rattle.logs.proofs.Tallies.{tally_not}
 use Rattle.logs.proofs.Moves.{ended_held}
@@ -30,7 +30,7 @@ use Rattle.rules.proofs.Facts.{Facts}
 use Rattle.rules.proofs.Reaches.{reached_facts}
 use Rattle.boards.specs.declared.board.Board.{Board}
 use Rattle.boards.specs.Held.{Bearable, Endable, given_back}
-use Rattle.boards.specs.Course.{tally_of, Refuses, Turn, Course, Led, Follows}
+use Rattle.boards.specs.Course.{tally_of, Refuses, Turn, Led, Follows}
 use Rattle.boards.specs.Course.Refuses.{start_none_left}
 use Rattle.boards.specs.Course.Turn.{starts, reports, tells, refuses}
 use Rattle.boards.specs.Course.Course.{goes}

@@ -6,23 +6,23 @@ use Rattle.refusals.specs.declared.Refusal.TheVariants.{BenchUnknown, JobUnknown
 use Rattle.trees.specs.Sums.{In, any, only}
 use Rattle.jobs.specs.declared.Job.{Job}
 use Rattle.jobs.specs.declared.State.{State}
-use Rattle.jobs.specs.declared.State.TheVariants.{Waiting, Running, Done}
+use Rattle.jobs.specs.declared.State.TheVariants.{Waiting, Running}
 use Rattle.logs.specs.declared.call.Call.{Call}
 use Rattle.logs.specs.declared.call.Call.TheVariants.{Start, Report, Ask}
 use Rattle.logs.specs.declared.call.Answer.{Answer}
 use Rattle.logs.specs.declared.call.Answer.TheVariants.{Started, Done as Ended, Told, Refused}
 use Rattle.logs.specs.Stands.{Opened, is_waiting, is_done, tally, held, busy, left, Ready}
-use Rattle.logs.specs.Logs.{Event, event, begun, ended, step, after, is_start, is_report, times, Tallied, StartRefused, ReportRefused, AskRefused, Seen, Right, Lawful}
+use Rattle.logs.specs.Logs.{Event, event, step, after, is_start, is_report, times, Tallied, StartRefused, ReportRefused, AskRefused, Right, Lawful}
 use Rattle.logs.specs.Logs.StartRefused.{outside, occupied, all_started, none_named}
 use Rattle.logs.specs.Logs.ReportRefused.{outside as no_bench, nothing}
 use Rattle.logs.specs.Logs.AskRefused.{outside as no_job}
 use Rattle.logs.proofs.Tallies.{any_some, any_false, tally_all, tally_not, tally_none}
-use Rattle.logs.proofs.States.{waiting_from, waiting_done}
+use Rattle.logs.proofs.States.{waiting_from}
 use Rattle.logs.proofs.Laws.{after_more, times_more, Kept, kept_none, kept_more, lawful_none, lawful_more}
 use Rattle.rules.specs.declared.hall.Hall.{Hall}
-use Rattle.rules.specs.Records.{state_in, seat_of, opened_of, seat, clear, restated, Alike}
+use Rattle.rules.specs.Records.{state_in, seat_of, opened_of, seat, clear}
 use Rattle.rules.specs.Acts.{Acts}
-use Rattle.rules.specs.Reached.{GrantedOpening, Starts, Ends, Reached}
+use Rattle.rules.specs.Reached.{Starts, Ends, Reached}
 use Rattle.rules.specs.Reached.Reached.{opened, started, reported}
 use Rattle.rules.specs.Duties.{Safe, Willing}
 use Rattle.rules.proofs.Records.{opened_typed}

@@ -4,7 +4,6 @@ use Rattle.amounts.specs.Axes.{most}
 use Rattle.trees.specs.Sums.{In}
 use Rattle.trees.specs.Trees.{kids}
 use Rattle.jobs.specs.declared.Job.{Job}
-use Rattle.jobs.specs.declared.State.{State}
 use Rattle.jobs.specs.declared.State.TheVariants.{Waiting, Running, Done}
 use Rattle.jobs.specs.Fields.{work_of, output_of}
 use Rattle.intake.specs.Faults.{par_of}

@@ -8,7 +8,6 @@ use Rattle.trees.specs.Sums.{In}
 use Rattle.trees.specs.Lines.{Plain}
 use Rattle.jobs.specs.declared.Job.{Job}
 use Rattle.intake.specs.Faults.{TreeFault, par_of}
-use Rattle.intake.specs.Taken.{Sound}
 use Rattle.peaks.specs.Stood.{Peak, Over}
 
 module _ {S : Type 0} (w : ℕ) (read : S → ℕ → ℕ) (xs : List (Job S)) (n benches : ℕ) (floor : S) where

@@ -1,12 +1,12 @@
 -- How many jobs are started, are done and run, and how many benches are busy.
-use Rattle.std.proofs.Common.{◌≡◌, ℕ, ◌+◌, Bool, true, false, not, eqb, ◌⊎◌, sym, refl, ap, ◌∙◌, inl, inr, arith}
+use Rattle.std.proofs.Common.{◌≡◌, ℕ, ◌+◌, false, not, eqb, ◌⊎◌, sym, refl, ap, ◌∙◌, inl, inr, arith}
 use Rattle.std.proofs.lemmas.Bool.{cases_eq}
 use Rattle.std.proofs.lemmas.Bool.Decides.{nat_tests}
 use Rattle.trees.specs.Sums.{In, sum, only}
 use Rattle.trees.proofs.Sums.{sum_eq, sum_zero, sum_add, sum_one}
 use Rattle.lines.proofs.Sums.{sum_swap}
 use Rattle.jobs.specs.declared.State.{State}
-use Rattle.jobs.specs.declared.State.TheVariants.{Waiting, Running, Done}
+use Rattle.jobs.specs.declared.State.TheVariants.{Running}
 use Rattle.logs.specs.Stands.{Opened, is_waiting, is_running, is_done, runs_on, tally, busy, busy_benches, Ready}
 use Rattle.logs.specs.Logs.{begun, ended}
 use Rattle.logs.proofs.Tallies.{tally_any, tally_more, tally_same}

@@ -1,5 +1,5 @@
 -- What jobs hold, and what a start and a report change of it, on one axis.
-use Rattle.std.proofs.Common.{◌≡◌, ℕ, ◌+◌, ◌≤◌, Bool, true, false, not, ◌&&◌, eqb, ◌⊎◌, sym, refl, ap, ◌∙◌, inl, inr, arith}
+use Rattle.std.proofs.Common.{◌≡◌, ℕ, ◌+◌, Bool, true, false, not, ◌&&◌, eqb, ◌⊎◌, sym, ap, ◌∙◌, inl, inr, arith}
 use Rattle.std.proofs.lemmas.Bool.{cases_eq, eq-eqb, ne_eqb}
 use Rattle.std.proofs.lemmas.Bool.Decides.{nat_tests}
 use Rattle.trees.specs.Sums.{In, sum, only}
@@ -7,7 +7,7 @@ use Rattle.trees.specs.Trees.{kids}
 use Rattle.trees.proofs.Sums.{sum_eq, sum_zero, sum_add, sum_one}
 use Rattle.jobs.specs.declared.State.{State}
 use Rattle.jobs.specs.declared.State.TheVariants.{Waiting, Running, Done}
-use Rattle.logs.specs.Stands.{Opened, is_waiting, is_running, is_done, taken, holds, held}
+use Rattle.logs.specs.Stands.{Opened, is_waiting, is_done, taken, holds, held}
 use Rattle.logs.proofs.States.{started_running}
 
 -- Jobs that pass the test c take their work and output until they are done. What is held has such a form, with the jobs that are

@@ -1,10 +1,9 @@
 -- Right answers keep a log lawful.
 use Rattle.std.proofs.Common.{◌≡◌, ℕ, zero, suc, ◌+◌, ◌≤◌, Bool, true, false, not, eqb, ◌⊎◌, List, [], ◌∷◌, ◌++◌, length, sym, refl, ap, ◌∙◌, subst, inl, inr, append-nil, arith}
-use Rattle.std.proofs.lemmas.Bool.{cases_eq, cases_Bool, eq-eqb, ne_eqb, true≢false}
-use Rattle.std.proofs.lemmas.Bool.Decides.{nat_tests}
+use Rattle.std.proofs.lemmas.Bool.{cases_eq, eq-eqb, ne_eqb, true≢false}
 use Rattle.refusals.specs.declared.Refusal.{Refusal}
 use Rattle.trees.specs.Sums.{In, only}
-use Rattle.trees.specs.Trees.{met, below}
+use Rattle.trees.specs.Trees.{met}
 use Rattle.lines.proofs.Upward.{met_cases, no_way}
 use Rattle.jobs.specs.declared.State.{State}
 use Rattle.jobs.specs.declared.State.TheVariants.{Waiting, Running, Done}
@@ -13,10 +12,10 @@ use Rattle.logs.specs.declared.call.Call.TheVariants.{Start, Report, Ask}
 use Rattle.logs.specs.declared.call.Answer.{Answer}
 use Rattle.logs.specs.declared.call.Answer.TheVariants.{Started, Done as Ended, Told, Refused}
 use Rattle.logs.specs.Stands.{Opened, is_waiting, is_done, runs_on, busy, busy_benches, Ready}
-use Rattle.logs.specs.Logs.{Event, event, begun, ended, step, since, after, is_start, starts_job, is_report, times, starts, reports, StartRefused, Right, NextRight, StartGranted, AtPoint, Lawful}
+use Rattle.logs.specs.Logs.{Event, event, begun, step, since, after, is_start, starts_job, is_report, times, starts, reports, StartRefused, Right, NextRight, StartGranted, AtPoint, Lawful}
 use Rattle.logs.specs.Logs.StartRefused.{outside, occupied, all_started, none_named}
 use Rattle.logs.proofs.Tallies.{any_from, tally_none, tally_all}
-use Rattle.logs.proofs.States.{done_from, not_waiting, runs_on_is, waiting_running, waiting_done, Way, waits, runs, done, way}
+use Rattle.logs.proofs.States.{done_from, runs_on_is, waiting_done, Way, waits, runs, done, way}
 use Rattle.logs.proofs.Moves.{Sound, waiting_sound, begun_sound, begun_here, begun_other, ended_sound}
 use Rattle.logs.proofs.Counts.{started_jobs, done_jobs, started_busy, begun_started, begun_done, ended_started, ended_started_at, ended_done}
 

@@ -1,5 +1,5 @@
 -- How the jobs stand stays sound, whatever is rightly started and reported.
-use Rattle.std.proofs.Common.{◌≡◌, ℕ, ◌+◌, ◌≤◌, Bool, true, false, cond, not, ◌&&◌, eqb, ◌⊎◌, sym, refl, ap, ◌∙◌, subst, inl, inr, arith}
+use Rattle.std.proofs.Common.{◌≡◌, ℕ, ◌+◌, ◌≤◌, true, false, eqb, ◌⊎◌, sym, refl, ap, ◌∙◌, subst, inl, inr, arith}
 use Rattle.std.proofs.lemmas.Bool.{cases_eq, cases_Bool, eq-eqb, ne_eqb, true≢false, cond-true, cond-false}
 use Rattle.std.proofs.lemmas.Bool.Decides.{nat_tests}
 use Rattle.trees.specs.Sums.{In}
@@ -7,10 +7,10 @@ use Rattle.trees.specs.Trees.{kids}
 use Rattle.lines.proofs.Upward.{cases_in}
 use Rattle.jobs.specs.declared.State.{State}
 use Rattle.jobs.specs.declared.State.TheVariants.{Waiting, Running, Done}
-use Rattle.logs.specs.Stands.{Opened, is_waiting, is_running, is_done, runs_on, taken, held, busy, Ready}
+use Rattle.logs.specs.Stands.{Opened, runs_on, taken, held, busy, Ready}
 use Rattle.logs.specs.Logs.{begun, ended}
 use Rattle.logs.proofs.Tallies.{any_from}
-use Rattle.logs.proofs.States.{not_done, runs_on_from, runs_on_is, waiting_running, waiting_done, running_done, same_bench, Way, waits, runs, done, way}
+use Rattle.logs.proofs.States.{runs_on_from, runs_on_is, waiting_running, waiting_done, running_done, same_bench, Way, waits, runs, done, way}
 use Rattle.logs.proofs.Holding.{held_none, held_begun, held_ended}
 
 -- what every way of standing keeps that starts and reports lead to

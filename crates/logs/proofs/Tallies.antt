@@ -1,13 +1,13 @@
 -- Tests over the numbers 1 to n: whether one passes, how many do, and what a test on jobs tells.
 use Rattle.std.proofs.Common.{◌≡◌, ℕ, zero, suc, ◌+◌, ◌≤◌, Bool, true, false, not, ◌&&◌, ◌||◌, eqb, ◌⊎◌, sym, refl, ap, ◌∙◌, inl, inr, arith}
-use Rattle.std.proofs.lemmas.Bool.{cases_Bool, cases_eq, true≢false, or_cases, or_parts, eq-eqb}
+use Rattle.std.proofs.lemmas.Bool.{cases_Bool, cases_eq, true≢false, or_cases, eq-eqb}
 use Rattle.std.proofs.lemmas.Bool.Decides.{nat_tests}
-use Rattle.trees.specs.Sums.{In, sum, only, any}
+use Rattle.trees.specs.Sums.{In, only, any}
 use Rattle.trees.proofs.Sums.{sum_eq, sum_zero, sum_add, sum_one, sum_ones}
 use Rattle.lines.proofs.Sums.{sum_tight}
 use Rattle.jobs.specs.declared.State.{State}
 use Rattle.jobs.specs.declared.State.TheVariants.{Waiting, Done}
-use Rattle.logs.specs.Stands.{is_waiting, is_done, tally, startable}
+use Rattle.logs.specs.Stands.{is_done, tally, startable}
 
 module _ (p : ℕ → Bool) where
   pub any_from : (n k : ℕ) → In n k → p k ≡ true → any p n ≡ true

@@ -1,5 +1,5 @@
 -- The log of a board since its opening: the calls and their answers, in their order; and the laws that it keeps.
-use Rattle.std.specs.Prelude.{◌≡◌, ℕ, ◌+◌, ◌≤◌, Bool, true, false, cond, ◌&&◌, List, [], ◌∷◌, ◌++◌, ◌==◌, ◌≢◌}
+use Rattle.std.specs.Prelude.{◌≡◌, ℕ, ◌+◌, ◌≤◌, Bool, true, false, cond, List, [], ◌∷◌, ◌++◌, ◌==◌, ◌≢◌}
 use Rattle.refusals.specs.declared.Refusal.{Refusal}
 use Rattle.refusals.specs.declared.Refusal.TheVariants.{BenchUnknown, JobUnknown, BenchBusy, BenchIdle, AllStarted, NoneNamed}
 use Rattle.trees.specs.Sums.{In, only}
@@ -12,7 +12,7 @@ use Rattle.logs.specs.declared.call.Sight.{Sight}
 use Rattle.logs.specs.declared.call.Answer.{Answer}
 use Rattle.logs.specs.declared.call.Answer.TheVariants.{Started, Done as Ended, Told, Refused}
 use Rattle.logs.specs.declared.call.Tally.{Tally}
-use Rattle.logs.specs.Stands.{Opened, is_waiting, runs_on, held, busy, busy_benches, left, Ready}
+use Rattle.logs.specs.Stands.{Opened, runs_on, held, busy, busy_benches, left, Ready}
 
 pub record Event (S : Type 0) : Type 0 where
   pub call : Call

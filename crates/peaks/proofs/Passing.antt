@@ -1,5 +1,5 @@
 -- A job of a sound tree can run at its position, with no sum above the limit.
-use Rattle.std.proofs.Common.{◌≡◌, ℕ, ◌+◌, ◌-◌, ◌<◌, List, length, get_or, sym, ◌∙◌, arith}
+use Rattle.std.proofs.Common.{◌≡◌, ℕ, ◌+◌, ◌<◌, List, length, get_or, sym, ◌∙◌, arith}
 use Rattle.trees.specs.Sums.{In}
 use Rattle.trees.specs.Lines.{entry, Line}
 use Rattle.trees.specs.Trees.{kids}

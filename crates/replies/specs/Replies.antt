@@ -2,13 +2,11 @@
 use Rattle.std.specs.Prelude.{ℕ, min, List, [], ◌∷◌, ◌++◌, codes, decimal}
 use Rattle.amounts.specs.declared.places.Places.{Places}
 use Rattle.amounts.specs.Axes.{most}
-use Rattle.refusals.specs.declared.Refusal.{Refusal}
 use Rattle.refusals.specs.Told.{told}
 use Rattle.jobs.specs.declared.State.{State}
 use Rattle.jobs.specs.declared.State.TheVariants.{Waiting, Running, Done}
 use Rattle.logs.specs.declared.call.Call.{Call}
 use Rattle.logs.specs.declared.call.Call.TheVariants.{Start, Report, Ask}
-use Rattle.logs.specs.declared.call.Sight.{Sight}
 use Rattle.logs.specs.declared.call.Answer.{Answer}
 use Rattle.logs.specs.declared.call.Answer.TheVariants.{Started, Done as Ended, Told, Refused}
 

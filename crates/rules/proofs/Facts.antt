@@ -1,9 +1,9 @@
 -- What holds of every board that a safe rule reaches.
-use Rattle.std.proofs.Common.{◌≡◌, ℕ, ◌+◌, ◌-◌, ◌<◌, ◌≤◌, Bool, true, false, cond, not, ◌&&◌, leb, ◌⊎◌, List, map, length, get_or, set, replicate, Some, None, Option, sym, refl, ap, ◌∙◌, subst, inl, inr, arith}
+use Rattle.std.proofs.Common.{◌≡◌, ℕ, ◌+◌, ◌-◌, true, false, cond, ◌&&◌, leb, ◌⊎◌, List, map, length, get_or, Some, None, Option, sym, refl, ap, ◌∙◌, subst, inl, inr, arith}
 use Rattle.std.proofs.lemmas.List.{length-set, get_or-replicate, get_or-set_same, get_or-set_other}
 use Rattle.std.proofs.lemmas.Bool.{cases_eq, cases_Bool}
 use Rattle.trees.specs.Sums.{In}
-use Rattle.trees.specs.Trees.{Chained, kids}
+use Rattle.trees.specs.Trees.{Chained}
 use Rattle.jobs.specs.declared.Job.{Job}
 use Rattle.jobs.specs.declared.State.{State}
 use Rattle.jobs.specs.declared.State.TheVariants.{Waiting, Running, Done}
@@ -11,19 +11,17 @@ use Rattle.jobs.specs.Fields.{first_of, next_of, work_of, output_of}
 use Rattle.lines.proofs.Upward.{cases_in}
 use Rattle.intake.specs.Faults.{par_of}
 use Rattle.intake.specs.Taken.{Sound}
-use Rattle.logs.specs.Stands.{Opened, is_waiting, is_done, runs_on, tally, held, busy, Ready}
+use Rattle.logs.specs.Stands.{Opened, runs_on, held, busy, Ready}
 use Rattle.logs.specs.Logs.{begun, ended}
 use Rattle.logs.proofs.Tallies.{any_from, any_none, tally_none}
-use Rattle.logs.proofs.States.{runs_on_from, runs_on_is, waiting_running, waiting_done, running_done, same_bench}
+use Rattle.logs.proofs.States.{runs_on_from, runs_on_is, waiting_running, running_done, same_bench}
 use Rattle.logs.proofs.Holding.{held_none}
 use Rattle.logs.proofs.Moves.{Sound as Steady, waiting_sound, begun_sound, begun_here, begun_other, begun_held, ended_sound, ended_here, ended_other, ended_held}
 use Rattle.logs.proofs.Counts.{started_jobs, done_jobs, begun_started, begun_done, ended_started, ended_done}
 use Rattle.rules.specs.declared.hall.Hall.{Hall}
-use Rattle.rules.specs.Records.{state_in, seat_of, opened_of, seat, clear, restated, typed, Alike, Laid}
+use Rattle.rules.specs.Records.{state_in, seat_of, opened_of, seat, clear, restated, typed, Alike}
 use Rattle.rules.specs.Acts.{Acts}
-use Rattle.rules.specs.Reached.{GrantedOpening, Starts, Ends, Reached}
-use Rattle.rules.specs.Reached.Reached.{opened, started, reported}
-use Rattle.rules.specs.Duties.{Safe}
+use Rattle.rules.specs.Reached.{GrantedOpening, Ends}
 use Rattle.rules.proofs.Records.{map_restated, state_in_none, restated_here, restated_other, par_typed, opened_typed, sound_typed, typed_restated, chained_same}
 
 pub none_some : {A : Type 0} {o : Option A} {x : A} → o ≡ None → o ≡ Some x → ⊥

@@ -1,21 +1,19 @@
 -- What follows for a row of job records from what was changed of it.
-use Rattle.std.proofs.Common.{◌≡◌, ℕ, zero, suc, ◌+◌, ◌-◌, ◌<◌, ◌≤◌, true, false, cond, ◌&&◌, eqb, leb, ◌⊎◌, List, [], ◌∷◌, map, length, get_or, take, set, sym, refl, ap, ◌∙◌, subst, inl, inr, arith}
+use Rattle.std.proofs.Common.{◌≡◌, ℕ, zero, suc, ◌+◌, ◌<◌, true, false, cond, ◌&&◌, leb, ◌⊎◌, List, [], ◌∷◌, map, length, get_or, take, set, sym, refl, ap, ◌∙◌, subst, inl, inr, arith}
 use mathlib.Core.List.{map-map}
 use Rattle.std.proofs.lemmas.List.{length-map, get_or-set_same, get_or-set_other}
-use Rattle.std.proofs.lemmas.Bool.{cases_eq, cases_Bool, eq-eqb, ne_eqb, cond-true, cond-false}
+use Rattle.std.proofs.lemmas.Bool.{cases_Bool, cond-true, cond-false}
 use Rattle.std.proofs.lemmas.Bool.Decides.{nat_tests}
 use Rattle.trees.specs.Sums.{In}
 use Rattle.trees.specs.Trees.{Tree, Chained}
-use Rattle.lines.proofs.Upward.{cases_in}
 use Rattle.jobs.specs.declared.Job.{Job}
 use Rattle.jobs.specs.declared.State.{State}
 use Rattle.jobs.specs.declared.State.TheVariants.{Waiting}
-use Rattle.jobs.specs.Fields.{first_of, next_of, work_of, output_of, minutes_of}
+use Rattle.jobs.specs.Fields.{first_of, next_of, work_of, output_of}
 use Rattle.intake.specs.Faults.{Over, Above, par_of}
 use Rattle.intake.specs.Taken.{Sound}
-use Rattle.logs.specs.Stands.{Opened}
 use Rattle.rules.specs.declared.hall.Hall.{Hall}
-use Rattle.rules.specs.Records.{state_in, opened_of, with_state, restated, Typed, typed, Alike}
+use Rattle.rules.specs.Records.{state_in, opened_of, with_state, restated, Typed, typed}
 
 in_test : (n k : ℕ) → In n k → (leb 1 k && leb k n) ≡ true
 in_test n k i = grind (arith, nat_tests)

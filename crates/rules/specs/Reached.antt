@@ -1,13 +1,12 @@
 -- The boards that are reached from a granted opening by starts that the rule named, and by reports. A board is told by the rule's
 -- record, the hall and the job records.
-use Rattle.std.specs.Prelude.{◌≡◌, ℕ, ◌+◌, List, replicate, Some, None, Option}
+use Rattle.std.specs.Prelude.{◌≡◌, ℕ, ◌+◌, List, replicate, Some, None}
 use Rattle.amounts.specs.Axes.{Exceeds}
 use Rattle.refusals.specs.declared.Refusal.{Refusal}
 use Rattle.trees.specs.Sums.{In}
 use Rattle.trees.specs.Trees.{kids}
 use Rattle.trees.specs.Lines.{Line}
 use Rattle.jobs.specs.declared.Job.{Job}
-use Rattle.jobs.specs.declared.State.{State}
 use Rattle.jobs.specs.declared.State.TheVariants.{Running, Done}
 use Rattle.jobs.specs.Fields.{work_of, output_of}
 use Rattle.intake.specs.Faults.{par_of}

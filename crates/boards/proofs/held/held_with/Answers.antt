@@ -1,4 +1,4 @@
-use Rattle.std.proofs.Common.{◌≡◌, ℕ, ◌+◌, ◌<◌, ◌≤◌, List, length, get_or, Some, None, Option, sym, ap, ◌∙◌, inl, inr, arith}
+use Rattle.std.proofs.Common.{◌≡◌, ℕ, ◌+◌, ◌<◌, List, length, get_or, Some, None, Option, sym, ◌∙◌, inl, inr, arith}
 use Rattle.amounts.specs.Axes.{most, Sum}
 use Rattle.trees.specs.Sums.{In}
 use Rattle.jobs.specs.declared.Job.{Job}

@@ -1,4 +1,4 @@
-use Rattle.std.proofs.Common.{◌≡◌, ℕ, ◌+◌, ◌<◌, ◌≤◌, List, length, get_or, Some, None, Option, sym, ap, ◌∙◌, arith}
+use Rattle.std.proofs.Common.{◌≡◌, ℕ, ◌<◌, List, length, Some, None, Option, sym, ◌∙◌, arith}
 use Rattle.amounts.specs.Axes.{Difference}
 use Rattle.trees.specs.Sums.{In}
 use Rattle.jobs.specs.declared.Job.{Job}

@@ -1,4 +1,4 @@
-use Rattle.std.proofs.Common.{◌≡◌, List, ◌++◌, length, take, vec_items}
+use Rattle.std.proofs.Common.{◌≡◌, List, ◌++◌, length, vec_items}
 use Rattle.logs.specs.Stands.{Opened}
 use Rattle.logs.specs.Logs.{Event, paired}
 use Rattle.boards.specs.Course.{Led}

@@ -1,6 +1,5 @@
 use Rattle.std.proofs.Common.{[], refl}
 use Rattle.std.proofs.lemmas.Result.{err_from_is_err_and}
-use Rattle.rules.specs.Records.{opened_with}
 use Rattle.shifts.proofs.Serving.{shifted, shifted_whole, not_opened}
 use Rattle.shifts.proofs.run.run_shift.Goals as goal
 

@@ -1,4 +1,4 @@
-use Rattle.std.proofs.Common.{◌≡◌, sym, refl}
+use Rattle.std.proofs.Common.{refl}
 use Rattle.boards.proofs.board.Board.call.Goals as goal
 
 pub returns-in-Ok : goal.returns-in-Ok

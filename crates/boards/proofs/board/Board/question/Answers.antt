@@ -1,4 +1,4 @@
-use Rattle.std.proofs.Common.{◌≡◌, refl, arith}
+use Rattle.std.proofs.Common.{refl, arith}
 use Rattle.refusals.specs.declared.Refusal.TheVariants.{JobUnknown}
 use Rattle.logs.specs.declared.call.Call.TheVariants.{Ask}
 use Rattle.boards.specs.Course.Refuses.{ask_outside}

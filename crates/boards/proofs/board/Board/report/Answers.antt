@@ -1,4 +1,4 @@
-use Rattle.std.proofs.Common.{◌≡◌, ◌+◌, get_or, Some, None, sym, refl, ap, ◌∙◌, subst, arith}
+use Rattle.std.proofs.Common.{◌≡◌, ◌+◌, get_or, None, sym, refl, ap, ◌∙◌, arith}
 use Rattle.refusals.specs.declared.Refusal.TheVariants.{BenchUnknown, BenchIdle}
 use Rattle.logs.specs.declared.call.Call.TheVariants.{Report}
 use Rattle.boards.specs.Course.Refuses.{report_outside, report_idle}

@@ -1,7 +1,6 @@
-use Rattle.std.proofs.Common.{◌≡◌, get_or, Some, None, sym, refl, ap, ◌∙◌, subst, arith}
+use Rattle.std.proofs.Common.{get_or, None, sym, refl, ap, ◌∙◌, arith}
 use Rattle.refusals.specs.declared.Refusal.TheVariants.{BenchUnknown, BenchBusy, NoneNamed}
 use Rattle.logs.specs.declared.call.Call.TheVariants.{Start}
-use Rattle.rules.specs.Records.{seat_of}
 use Rattle.boards.specs.Course.Refuses.{start_outside, start_busy, start_none_named}
 use Rattle.boards.specs.Listed.StartListed.{outside, busy, all_started, none_named, altered}
 use Rattle.boards.proofs.Answering.{some_from, none_from, seat_at, reached, refused, few_benches, none_left, named_runs, started}

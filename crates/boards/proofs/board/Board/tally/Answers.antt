@@ -1,5 +1,4 @@
-use Rattle.std.proofs.Common.{◌≡◌, ◌-◌, ap, subst, arith}
-use Rattle.logs.specs.declared.call.Tally.{Tally}
+use Rattle.std.proofs.Common.{◌≡◌, ◌-◌, ap, arith}
 use Rattle.boards.proofs.Courses.{along, tallied}
 use Rattle.boards.proofs.board.Board.tally.Goals as goal
 

@@ -1,6 +1,6 @@
 -- A text is the text of one run alone.
 use Rattle.std.proofs.Common.{◌≡◌, ℕ, Bool, false, List, [], ◌∷◌, ◌++◌, length, get_or, sym, refl, ap, ◌∙◌, append_assoc, arith}
-use Rattle.std.specs.List.{AllByRecursion as All}
+use Rattle.std.specs.List.{AllByRecursion}
 use Rattle.prints.specs.Decimal.{digit, decimal}
 use Rattle.prints.specs.Runs.{marked, JobLine, Run, lines, LineHeld}
 use Rattle.prints.specs.Answers.{OneRun}
@@ -31,7 +31,7 @@ amount_same c (v ∷ vs) (w ∷ ws) t u l a b e =
     ((λ i. n.0 i ∷ r.0 i), r.1)
 
 module _ (ax : ℕ) (c d : Bool) where
-  lines_same : (js ks : List JobLine) → All (LineHeld ax c) js → All (LineHeld ax d) ks → lines js ≡ lines ks → js ≡ ks
+  lines_same : (js ks : List JobLine) → AllByRecursion (LineHeld ax c) js → AllByRecursion (LineHeld ax d) ks → lines js ≡ lines ks → js ≡ ks
   lines_same [] [] f g e = refl
   lines_same [] (k ∷ ks) f g e = let z : ◌≡◌ {A = ℕ} 0 1 = cc in absurd (omega arith)
   lines_same (j ∷ js) [] f g e = let z : ◌≡◌ {A = ℕ} 0 1 = cc in absurd (omega arith)

@@ -1,6 +1,6 @@
 -- Decimal digits: what is printed is read back, and where it ends.
 use Rattle.std.proofs.Common.{◌≡◌, ℕ, ◌+◌, ◌-◌, ◌*◌, ◌/◌, ◌%◌, ◌<◌, ◌≤◌, true, false, cond, eqb, ◌⊎◌, List, [], ◌∷◌, ◌++◌, map, get_or, sym, refl, ap, ◌∙◌, subst, inl, inr, arith}
-use Rattle.std.specs.List.{AllByRecursion as All}
+use Rattle.std.specs.List.{AllByRecursion}
 use Rattle.std.specs.Int.Digits.{digits_of, number_from_digits_after, AllBelowBase}
 use Rattle.std.proofs.lemmas.Int.Digits.{digits_of_step, all_below_base_digits_of, first_digits_of, number_digits_of}
 use Rattle.std.proofs.lemmas.List.{map-append}
@@ -108,13 +108,13 @@ decimal_first_digit n t = go (cases_eq n 0)
         let p : 0 < n = grind arith in
         ap (λ l. digit (get_or (l ++ t) 0 0)) (decimal_some n p) ∙ under_first (digits_of 10 n) t (all_below_base_digits_of 10 n (omega arith)) (first_digits_of 10 n (omega arith) p)
 
-shown_digits : (ds : List ℕ) → AllBelowBase 10 ds → All (λ c. digit c ≡ true) (shown ds)
+shown_digits : (ds : List ℕ) → AllBelowBase 10 ds → AllByRecursion (λ c. digit c ≡ true) (shown ds)
 shown_digits [] u = tt
 shown_digits (d ∷ ds) u = (digit_shown d u.0, shown_digits ds u.1)
 
-pub decimal_digits : (n : ℕ) → All (λ c. digit c ≡ true) (decimal n)
+pub decimal_digits : (n : ℕ) → AllByRecursion (λ c. digit c ≡ true) (decimal n)
 decimal_digits n = go (cases_eq n 0)
   where
-    go : (n ≡ 0) ⊎ (n ≡ 0 → ⊥) → All (λ c. digit c ≡ true) (decimal n)
+    go : (n ≡ 0) ⊎ (n ≡ 0 → ⊥) → AllByRecursion (λ c. digit c ≡ true) (decimal n)
     go (inl e) = rw (e, decimal_zero) (refl, tt)
-    go (inr h) = let p : 0 < n = grind arith in subst (All (λ c. digit c ≡ true)) (sym (decimal_some n p)) (shown_digits (digits_of 10 n) (all_below_base_digits_of 10 n (omega arith)))
+    go (inr h) = let p : 0 < n = grind arith in subst (AllByRecursion (λ c. digit c ≡ true)) (sym (decimal_some n p)) (shown_digits (digits_of 10 n) (all_below_base_digits_of 10 n (omega arith)))

@@ -1,6 +1,6 @@
 -- The whole text: where it begins, a line more, its end.
 use Rattle.std.proofs.Common.{◌≡◌, ℕ, zero, suc, ◌+◌, ◌<◌, ◌≤◌, Bool, true, false, ◌⊎◌, List, [], ◌∷◌, ◌++◌, map, length, get_or, take, drop, codes, sym, refl, ap, ◌∙◌, subst, inl, inr, append_assoc, append-nil, arith}
-use Rattle.std.specs.List.{AllByRecursion as All}
+use Rattle.std.specs.List.{AllByRecursion}
 use Rattle.std.proofs.lemmas.List.{drop_more, take-append-drop}
 use Rattle.std.proofs.lemmas.Bool.{cases_lt}
 use Rattle.refusals.specs.declared.Refusal.{Refusal}
@@ -107,7 +107,7 @@ job_print ax cap ys h = go (word_print ax cap (codes "job ") (number 4095 ∷ (a
             then (o, t3, ho, e3, (t4, e4, (m, t5, hm, e5, (t6, e6, (js, t7, hj, e7, e8))))) =
                 (record { parent = p; work = w; output = o; minutes = m } ∷ js, [], (record { parent = hp; work = hw; output = ho; minutes = hm }, hj), rw (e, e1, e2, e3, e4, e5, e6, e7, e8, append-nil (lines js), append-nil) refl, refl)
 
-print_job : (ax : ℕ) (cap : Bool) (j : JobLine) (js : List JobLine) (ys : List ℕ) → All (LineHeld ax cap) (j ∷ js) → ys ≡ lines (j ∷ js) → Prints ax cap (job_then ax (jobs ∷ [])) ys
+print_job : (ax : ℕ) (cap : Bool) (j : JobLine) (js : List JobLine) (ys : List ℕ) → AllByRecursion (LineHeld ax cap) (j ∷ js) → ys ≡ lines (j ∷ js) → Prints ax cap (job_then ax (jobs ∷ [])) ys
 print_job ax cap j js ys h e =
     subst (Prints ax cap (job_then ax (jobs ∷ []))) (sym e) (
       _,
@@ -160,14 +160,14 @@ begins_front ax cap bs n t = (drop n bs, subst (Text ax cap) (sym (take-append-d
 pub any_text : (ax : ℕ) (bs : List ℕ) → Text ax true bs → Text ax false bs
 any_text ax bs (r, h, e) = (r, record { rule = h.rule; benches = tt; floor = loose h.floor; jobs = all r.jobs h.jobs }, e)
   where
-    each : (m : ℕ) (vs : List ℕ) → All (λ v. Held false v m) vs
+    each : (m : ℕ) (vs : List ℕ) → AllByRecursion (λ v. Held false v m) vs
     each m [] = tt
     each m (v ∷ vs) = (tt, each m vs)
 
     loose : {m : ℕ} {vs : List ℕ} → AmountHeld ax true m vs → AmountHeld ax false m vs
     loose {m} {vs} h = record { axes = h.axes; each = each m vs }
 
-    all : (js : List JobLine) → All (LineHeld ax true) js → All (LineHeld ax false) js
+    all : (js : List JobLine) → AllByRecursion (LineHeld ax true) js → AllByRecursion (LineHeld ax false) js
     all [] a = tt
     all (j ∷ js) a = (record { parent = tt; work = loose a.0.work; output = loose a.0.output; minutes = tt }, all js a.1)
 

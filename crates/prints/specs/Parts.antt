@@ -1,6 +1,6 @@
 -- What may still come of a text, where its front is read.
 use Rattle.std.specs.Prelude.{◌≡◌, ℕ, zero, suc, ◌-◌, Bool, false, List, [], ◌∷◌, ◌++◌, map, take, drop, codes, slice_index}
-use Rattle.std.specs.List.{AllByRecursion as All}
+use Rattle.std.specs.List.{AllByRecursion}
 use Rattle.prints.specs.Decimal.{decimal, digit}
 use Rattle.prints.specs.Runs.{JobLine, lines, Letter, Held, LineHeld, Text}
 
@@ -28,7 +28,7 @@ Prints ax cap [] ys = ys ≡ []
 Prints ax cap (byte b ∷ k) ys = (t : List ℕ) × (ys ≡ b ∷ t) × Prints ax cap k t
 Prints ax cap (letter ∷ k) ys = (c : ℕ) × (t : List ℕ) × Letter c × (ys ≡ c ∷ t) × Prints ax cap k t
 Prints ax cap (number m ∷ k) ys = (v : ℕ) × (t : List ℕ) × Held cap v m × (ys ≡ decimal v ++ t) × Prints ax cap k t
-Prints ax cap (jobs ∷ k) ys = (js : List JobLine) × (t : List ℕ) × All (LineHeld ax cap) js × (ys ≡ lines js ++ t) × Prints ax cap k t
+Prints ax cap (jobs ∷ k) ys = (js : List JobLine) × (t : List ℕ) × AllByRecursion (LineHeld ax cap) js × (ys ≡ lines js ++ t) × Prints ax cap k t
 
 -- no print of the parts begins with a digit
 abbrev pub Apart : List Part → Type 0

@@ -1,6 +1,6 @@
 -- What a text is: the print of a run.
 use Rattle.std.specs.Prelude.{◌≡◌, ℕ, ◌≤◌, Bool, true, false, ◌⊎◌, List, [], ◌∷◌, ◌++◌, length, codes}
-use Rattle.std.specs.List.{AllByRecursion as All}
+use Rattle.std.specs.List.{AllByRecursion}
 use Rattle.prints.specs.Decimal.{decimal}
 
 -- the numbers of an amount: c stands before the first, and a slash before each other
@@ -37,7 +37,7 @@ Held false v m = Unit {0}
 -- an amount has `ax` axes, with each number held
 pub record AmountHeld (ax : ℕ) (cap : Bool) (m : ℕ) (vs : List ℕ) : Type 0 where
   pub axes : length vs ≡ ax
-  pub each : All (λ v. Held cap v m) vs
+  pub each : AllByRecursion (λ v. Held cap v m) vs
 
 pub record LineHeld (ax : ℕ) (cap : Bool) (j : JobLine) : Type 0 where
   pub parent : Held cap j.parent 4095
@@ -53,7 +53,7 @@ pub record RunHeld (ax : ℕ) (cap : Bool) (r : Run) : Type 0 where
   pub rule : Letter r.rule
   pub benches : Held cap r.benches 64
   pub floor : AmountHeld ax cap 1000000000 r.floor
-  pub jobs : All (LineHeld ax cap) r.jobs
+  pub jobs : AllByRecursion (LineHeld ax cap) r.jobs
 
 -- the bytes are the text of a run: at `true` of one whose numbers are in their bounds
 abbrev pub Text : ℕ → Bool → List ℕ → Type 0

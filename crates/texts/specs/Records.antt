@@ -1,6 +1,6 @@
 -- The run that a heading and job records hold, and what a granted text leaves.
 use Rattle.std.specs.Prelude.{◌≡◌, ℕ, ◌<◌, ◌⊎◌, List, map, length, take, drop, slice_index_or}
-use Rattle.std.specs.List.{range_with_len, AllByRecursion as All}
+use Rattle.std.specs.List.{range_with_len, AllByRecursion}
 use Rattle.amounts.specs.Axes.{Same}
 use Rattle.jobs.specs.declared.Job.{Job}
 use Rattle.jobs.specs.declared.State.TheVariants.{Waiting}
@@ -41,5 +41,5 @@ module _ {S : Type 0} (read : S → ℕ → ℕ) where
     pub size : length new ≡ length old
     pub room : h.jobs < length new
     pub good : Good w bs (length old) (run_of w h (map (line_of w) (take h.jobs (drop 1 new))))
-    pub fresh : All Fresh (take h.jobs (drop 1 new))
+    pub fresh : AllByRecursion Fresh (take h.jobs (drop 1 new))
     pub kept : (k : ℕ) (d : Job S) → (k ≡ 0) ⊎ (h.jobs < k) → slice_index_or new k d ≡ slice_index_or old k d

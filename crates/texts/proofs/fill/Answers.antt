@@ -1,5 +1,5 @@
 use Rattle.std.proofs.Common.{◌≡◌, ℕ, ◌+◌, ◌<◌, ◌≤◌, ◌⊎◌, map, length, take, drop, sym, refl, ap, ◌∙◌, subst, inl, inr, arith, rules}
-use Rattle.std.specs.List.{AllByRecursion as All}
+use Rattle.std.specs.List.{AllByRecursion}
 use Rattle.std.proofs.ByRecursion.{All-push}
 use Rattle.std.proofs.lemmas.List.{length-map, length-take-le, length-drop, length_push, length-set, map_push}
 use Rattle.std.proofs.lemmas.Bool.{ltb-true, ltb-false}
@@ -90,7 +90,7 @@ loop-reader-preserved g c =
       ap (λ b. b.now) e.same ∙ i.0,
       omega (arith, length-set recs (n + 1) j, r),
       subst (λ js. Through w c.args.text.now c.job.new.self.pos (run_of read w c.in_ok-heading.heading js)) (sym (ap (map (line_of read w)) more ∙ map_push (line_of read w) (take n (drop 1 recs)) j)) (on g c lt),
-      subst (All (Fresh read)) (sym more) (All-push (Fresh read) (take n (drop 1 recs)) j i.3 e.fresh),
+      subst (AllByRecursion (Fresh read)) (sym more) (All-push (Fresh read) (take n (drop 1 recs)) j i.3 e.fresh),
       λ k d x. others_kept recs n j k d x ∙ i.4 k d (weaker k n x),
     )
 

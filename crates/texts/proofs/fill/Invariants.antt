@@ -1,5 +1,5 @@
 use Rattle.std.proofs.Common.{◌≡◌, ℕ, ◌-◌, ◌<◌, ◌⊎◌, map, length, get_or, take, drop}
-use Rattle.std.specs.List.{AllByRecursion as All}
+use Rattle.std.specs.List.{AllByRecursion}
 use Rattle.jobs.specs.declared.Job.{Job}
 use Rattle.texts.specs.Records.{line_of, run_of, Fresh}
 use Rattle.texts.proofs.Through.{Through}
@@ -14,7 +14,7 @@ invariant-loop-reader g l =
     (l.reader.bytes.now ≡ l.text)
     × (l.count < length l.records)
     × Through w l.text l.reader.pos (run_of read w l.heading (map (line_of read w) js))
-    × All (Fresh read) js
+    × AllByRecursion (Fresh read) js
     × ((k : ℕ) (d : Job g.row.K.Denot) → (k ≡ 0) ⊎ (l.count < k) → get_or l.records k d ≡ get_or l.initial.records k d)
 
 abbrev pub decreases-loop-reader : goal.decreases-loop-reader

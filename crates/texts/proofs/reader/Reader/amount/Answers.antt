@@ -1,5 +1,5 @@
 use Rattle.std.proofs.Common.{◌≡◌, ℕ, ◌+◌, ◌-◌, ◌≤◌, List, [], ◌∷◌, ◌++◌, length, sym, refl, ap, ◌∙◌, subst, arith}
-use Rattle.std.specs.List.{AllByRecursion as All}
+use Rattle.std.specs.List.{AllByRecursion}
 use Rattle.std.proofs.lemmas.List.FromFn.{length-map-range_with_len}
 use Rattle.std.proofs.ByRecursion.{All-push}
 use Rattle.std.proofs.lemmas.Result.{err_from_is_err_and}
@@ -61,7 +61,7 @@ loop-axis-preserved g c =
     let now : front read (a + 1 - 1) c.put-amount.result ≡ xs ++ (v ∷ []) = ap (λ i. front read i c.put-amount.result) back ∙ c.put-amount.ensures in
     let s = sofar_on (byte c.mark.result ∷ number m ∷ []) (left g (a + 1) m) (before g (goal.at.loop-axis-preserved g c).After-number) Apart (λ k f. left_apart (mark_of (a + 1)) _ m k (mark_digit (a + 1)) f) c.number.new.self e.same e.reads in (
       s.same,
-      subst (All (λ w. w ≤ m)) (sym now) (All-push (λ w. w ≤ m) xs v c.loop-axis.invariant.1 e.bounded),
+      subst (AllByRecursion (λ w. w ≤ m)) (sym now) (All-push (λ w. w ≤ m) xs v c.loop-axis.invariant.1 e.bounded),
       subst (Moved r.bytes.now r.pos c.number.new.self.pos) (ap (λ b. marked 32 xs ++ (b ∷ decimal v)) c.mark.ensures ∙ sym (ap (marked 32) now ∙ marked_more xs a v size)) s.moved,
       s.on,
     )
@@ -81,5 +81,5 @@ returns g c =
         subst (λ j. Moved r.bytes.now r.pos c.loop-axis.self.pos (marked 32 (front read j c.loop-axis.amount))) last i.2,
         λ ax k f s. subst (λ l. Stands ax r.bytes.now c.loop-axis.self.pos (l ++ k)) (left_none n a m (omega arith)) (i.3 ax k f s),
       );
-      held = record { axes = length-map-range_with_len (read c.loop-axis.amount) 1 n; each = subst (λ j. All (λ v. v ≤ m) (front read j c.loop-axis.amount)) last i.1 };
+      held = record { axes = length-map-range_with_len (read c.loop-axis.amount) 1 n; each = subst (λ j. AllByRecursion (λ v. v ≤ m) (front read j c.loop-axis.amount)) last i.1 };
     }

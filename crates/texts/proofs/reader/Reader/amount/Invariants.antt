@@ -1,5 +1,5 @@
 use Rattle.std.proofs.Common.{◌≡◌, ℕ, ◌+◌, ◌-◌, ◌≤◌, List, ◌++◌}
-use Rattle.std.specs.List.{AllByRecursion as All}
+use Rattle.std.specs.List.{AllByRecursion}
 use Rattle.prints.specs.Runs.{marked}
 use Rattle.prints.specs.Parts.{Part, Apart, Stands, amount_parts}
 use Rattle.texts.specs.Steps.{Moved, mark_of}
@@ -12,6 +12,6 @@ invariant-loop-axis g l =
     let n = g.K.Amount.width in
     let xs = front g.K.Amount.reading (l.axis - 1) l.amount in
     (l.self.bytes ≡ l.initial.self.bytes)
-    × All (λ v. v ≤ l.bound) xs
+    × AllByRecursion (λ v. v ≤ l.bound) xs
     × Moved l.initial.self.bytes.now l.initial.self.pos l.self.pos (marked 32 xs)
     × ((ax : ℕ) (k : List Part) → Apart k → Stands ax l.initial.self.bytes.now l.initial.self.pos (amount_parts 32 n l.bound ++ k) → Stands ax l.initial.self.bytes.now l.self.pos (amount_parts (mark_of l.axis) (n + 1 - l.axis) l.bound ++ k))

@@ -25,17 +25,21 @@ docs/REFUSALS.md lists the numbers, docs/TEXT.md the form of a run.";
 const VERSION: &str = "hall 0.1.0
 proved with rattle-kit-13f logic dac8208d650f15bf";
 
-/// The bytes of the file, or of standard input where no file is named.
-fn bytes_of(rt: &HostRuntime, file: Option<String>) -> anyhow::Result<Vec<u8>> {
+/// The bytes of the file, or of standard input where no file is named; none where the file cannot
+/// be read, which is told.
+fn bytes_of(rt: &HostRuntime, file: Option<String>) -> anyhow::Result<Option<Vec<u8>>> {
     match file {
         Some(path) => match fs::read(rt, path.as_str()) {
-            Ok(bytes) => Ok(bytes),
-            Err(e) => Err(anyhow!(format!(in rt.alloc(); "cannot read {path}: {e}")?)),
+            Ok(bytes) => Ok(Some(bytes)),
+            Err(e) => {
+                eprintln!(rt; "hall: cannot read {path}: {e}")?;
+                Ok(None)
+            }
         },
         None => {
             let mut bytes = Vec::new(rt.alloc());
             rt.stdin().read_to_end(&mut bytes)?;
-            Ok(bytes)
+            Ok(Some(bytes))
         }
     }
 }
@@ -43,13 +47,16 @@ fn bytes_of(rt: &HostRuntime, file: Option<String>) -> anyhow::Result<Vec<u8>> {
 /// Prints the answer to a run; whether the hall can carry it.
 fn check(rt: &HostRuntime, file: Option<String>) -> anyhow::Result<bool> {
     let heap = rt.alloc();
-    let bytes = bytes_of(rt, file)?;
+    let Some(bytes) = bytes_of(rt, file)? else {
+        return Ok(false);
+    };
     let answer = check_text::<Places>(heap, &bytes)?;
     print!(rt; "{}", answer_line(heap, &answer)?)?;
     Ok(answer.is_ok())
 }
 
-/// Carries out what the words ask for; false where the answer is a refusal.
+/// Carries out what the words ask for; false where the answer is a refusal, or where something was
+/// in the way and is told.
 fn run(rt: &HostRuntime) -> anyhow::Result<bool> {
     let mut words = env::args(rt)?.skip(1);
     let Some(first) = words.next() else {
@@ -64,9 +71,8 @@ fn run(rt: &HostRuntime) -> anyhow::Result<bool> {
         Command::Help => println!(rt; "{HELP}")?,
         Command::Version => println!(rt; "{VERSION}")?,
         Command::Unknown => {
-            return Err(anyhow!(format!(in rt.alloc();
-                "unknown command '{first}': see 'hall --help'"
-            )?));
+            eprintln!(rt; "hall: unknown command '{first}': see 'hall --help'")?;
+            return Ok(false);
         }
     }
     Ok(true)

@@ -1,4 +1,4 @@
-ghost use Rattle.std.specs.Prelude.{◌≡◌, map};
+ghost use Rattle.std.specs.Prelude.{◌≡◌, map, [], IfOk};
 ghost use Rattle.logs.specs.Logs.{event};
 ghost use Rattle.terminals.specs.Entries.{event_of};
 
@@ -27,12 +27,16 @@ pub struct Terminal<'a> {
 }
 
 impl<'a> Terminal<'a> {
-    pub fn new(rt: &'a HostRuntime) -> anyhow::Result<Terminal<'a>> {
+    /// Nothing is read or answered yet.
+    pub fn new(rt: &'a HostRuntime) -> anyhow::Result<Terminal<'a>>
+        ensures { IfOk result (λ t. map event_of t.entries.items ≡ []) }
+    {
+        let entries = Vec::new(rt.alloc());
         Ok(Terminal {
             rt,
             input: BufReader::new(rt.alloc(), rt.stdin())?,
             lines: 0,
-            entries: Vec::new(rt.alloc()),
+            entries,
         })
     }
 

@@ -7,12 +7,5 @@ use super::amount::Amount;
 pub fn exceeds<K: Amount>(amount: &K, bound: u64) -> bool
     ensures { MatchBool result (Above K.Amount.width (K.Amount.reading amount.now) bound) (Above K.Amount.width (K.Amount.reading amount.now) bound → ⊥) }
 {
-    for k in 1..=K::count() {
-        if let Some(value) = amount.axis(k)
-            && value > bound
-        {
-            return true;
-        }
-    }
-    false
+    (1..K::count() + 1).any(|k| amount.axis(k).is_some_and(|value| value > bound))
 }

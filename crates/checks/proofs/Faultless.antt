@@ -1,10 +1,10 @@
 -- A tree is refused for nothing, and a line is no refused row.
-use Rattle.std.proofs.Common.{◌≡◌, ℕ, ◌<◌, ◌≤◌, ◌⊎◌, List, ap, ◌∙◌, inl, inr, arith}
+use Rattle.std.proofs.Common.{◌≡◌, ℕ, ◌≤◌, List, ap, ◌∙◌, inl, inr, arith}
 use Rattle.refusals.specs.declared.Refusal.{Refusal}
 use Rattle.trees.specs.Lines.{place, Line}
 use Rattle.trees.specs.Faults.{ParentFault, RowFault}
-use Rattle.trees.specs.Faults.ParentFault.{count, missing, rootless, second, unreached}
 use Rattle.trees.specs.Faults.RowFault.{unfit, longer, early}
+use Rattle.trees.proofs.Firsts.{tree_none}
 use Rattle.trees.proofs.Places.{line_place}
 use Rattle.lines.specs.Faults.{RoomFault}
 use Rattle.lines.specs.Faults.RoomFault.{no_tree, no_room}
@@ -16,16 +16,8 @@ use Rattle.peaks.specs.Faults.{RunFault}
 use Rattle.peaks.specs.Faults.RunFault.{untreed, unlined}
 
 module _ {S : Type 0} {w : ℕ} {read : S → ℕ → ℕ} {xs : List (Job S)} {n : ℕ} (s : Sound w read xs n) where
-  miscount : (n ≡ 0) ⊎ (4095 < n) → ⊥
-  miscount (inl h) = omega (arith, s.some)
-  miscount (inr h) = omega (arith, s.few)
-
   parentless : {e : Refusal} → ParentFault n (par_of xs n) e → ⊥
-  parentless (count h) = miscount h
-  parentless (missing i a b) = omega (arith, s.tree.parents i a)
-  parentless (rootless h) = h s.tree.top s.tree.top_in s.tree.top_free
-  parentless (second i j a b c e f) = let p = s.tree.one_top i a e in let q = s.tree.one_top j b f in omega arith
-  parentless (unreached i a b) = b (s.tree.reaches i a)
+  parentless p = tree_none n (par_of xs n) s.some s.few s.tree _ p
 
   pub sound_faultless : {e : Refusal} → TreeFault w read xs n e → ⊥
   sound_faultless (records h) = omega (arith, s.records)

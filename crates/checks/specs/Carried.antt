@@ -1,21 +1,20 @@
 -- Whether a hall carries a run by its plain line.
-use Rattle.std.specs.Prelude.{◌≡◌, ℕ, ◌<◌, ◌⊎◌, List, Result}
-use Rattle.amounts.specs.Axes.{Exceeds}
+use Rattle.std.specs.Prelude.{ℕ, List, Result}
 use Rattle.refusals.specs.declared.Refusal.{Refusal}
-use Rattle.refusals.specs.declared.Refusal.TheVariants.{Benches, Floor, FloorExceeded}
+use Rattle.refusals.specs.declared.Refusal.TheVariants.{FloorExceeded}
 use Rattle.refusals.specs.Judged.{Judged}
 use Rattle.trees.specs.Sums.{In}
 use Rattle.trees.specs.Lines.{Plain}
 use Rattle.jobs.specs.declared.Job.{Job}
 use Rattle.intake.specs.Faults.{TreeFault, par_of}
+use Rattle.peaks.specs.Halls.{BoundFault}
 use Rattle.peaks.specs.Stood.{Peak, Over}
 
 module _ {S : Type 0} (w : ℕ) (read : S → ℕ → ℕ) (xs : List (Job S)) (n benches : ℕ) (floor : S) where
   -- what a hall with such benches and such a floor refuses a run for
   pub data HallFault : Refusal → Type 0 where
     untreed : {e : Refusal} → TreeFault w read xs n e → HallFault e
-    unbenched : (benches ≡ 0) ⊎ (64 < benches) → HallFault Benches
-    unfloored : Exceeds w (read floor) 1000000000 → HallFault Floor
+    unbounded : {e : Refusal} → BoundFault w benches (read floor) e → HallFault e
     exceeded : (row : List ℕ) (p : ℕ) → Plain n (par_of xs n) row → In n p → Over read xs n row floor p → HallFault (FloorExceeded p)
 
   -- x is the peak of the plain line

@@ -5,12 +5,12 @@ ghost use Rattle.intake.specs.Faults.{TreeFault, par_of};
 ghost use Rattle.intake.specs.Taken.{Sound};
 ghost use Rattle.checks.specs.Carried.{Carried as CarriedBy};
 
-use amounts::{Amount, exceeds};
+use amounts::Amount;
 use intake::parents_of;
 use jobs::Job;
-use lines::plain_line;
-use peaks::{first_over, peak};
-use refusals::{FLOOR_BOUND, MOST_BENCHES, Refusal};
+use lines::plain_in;
+use peaks::{check_hall, first_over, peak};
+use refusals::Refusal;
 
 /// The plain line of the jobs 1 to `n`, in the first `n` cells.
 pub fn plain_of<K: Amount>(jobs: &[Job<K>], n: usize) -> Result<[u32; 4096], Refusal>
@@ -18,7 +18,7 @@ pub fn plain_of<K: Amount>(jobs: &[Job<K>], n: usize) -> Result<[u32; 4096], Ref
 {
     let parents = parents_of(jobs, n)?;
     let mut line = [0u32; 4096];
-    plain_line(&parents[0..n + 1], &mut line)?;
+    plain_in(&parents, &mut line)?;
     Ok(line)
 }
 
@@ -28,12 +28,7 @@ pub fn carried<K: Amount>(jobs: &[Job<K>], n: usize, benches: u32, floor: &K) ->
     ensures { CarriedBy K.Amount.width K.Amount.reading jobs.now n benches floor.now result }
 {
     let line = plain_of(jobs, n)?;
-    if benches == 0 || benches > MOST_BENCHES {
-        return Err(Refusal::Benches);
-    }
-    if exceeds(floor, FLOOR_BOUND) {
-        return Err(Refusal::Floor);
-    }
+    check_hall(benches as usize, floor)?;
     if let Some(position) = first_over(jobs, n, &line[0..n], floor)? {
         return Err(Refusal::FloorExceeded { position });
     }

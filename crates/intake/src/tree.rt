@@ -1,4 +1,4 @@
-ghost use Rattle.std.specs.Prelude.{◌≡◌, ℕ, ◌+◌, ◌<◌, ◌≤◌, length, take, OnErr, slice_index};
+ghost use Rattle.std.specs.Prelude.{◌≡◌, ℕ, ◌+◌, ◌<◌, ◌≤◌, length, OnErr};
 ghost use Rattle.refusals.specs.Judged.{Judged};
 ghost use Rattle.intake.specs.Faults.{TreeFault, parent_row};
 ghost use Rattle.intake.specs.Taken.{Sound, Taken};
@@ -8,12 +8,12 @@ use super::chain::{copy_parents, set_chains};
 use amounts::Amount;
 use jobs::Job;
 use refusals::{MOST_AXES, MOST_JOBS, Refusal};
-use trees::{chains_of, check_parents};
+use trees::Parents;
 
-/// The parents of the jobs 1 to `n`, each at its job's number, where the records are those of a
-/// tree. Cell 0 has what record 0 has there, which is no job; the cells above `n` are 0.
-pub fn parents_of<K: Amount>(jobs: &[Job<K>], n: usize) -> Result<[u32; 4096], Refusal>
-    ensures { Judged (TreeFault K.Amount.width K.Amount.reading jobs.now n) (λ ps. Sound K.Amount.width K.Amount.reading jobs.now n × (take (n + 1) ps ≡ parent_row jobs.now n) × ((k : ℕ) → n < k → slice_index ps k ≡ 0)) result }
+/// The parents of the jobs 1 to `n`, where the records are those of a tree. The spare cell has what
+/// record 0 has there, which is no job.
+pub fn parents_of<K: Amount>(jobs: &[Job<K>], n: usize) -> Result<Parents, Refusal>
+    ensures { Judged (TreeFault K.Amount.width K.Amount.reading jobs.now n) (λ ps. Sound K.Amount.width K.Amount.reading jobs.now n × (ps ≡ parent_row jobs.now n)) result }
 {
     if n == 0 || n > MOST_JOBS || n >= jobs.len() {
         return Err(Refusal::JobCount { jobs: n });
@@ -24,10 +24,9 @@ pub fn parents_of<K: Amount>(jobs: &[Job<K>], n: usize) -> Result<[u32; 4096], R
     if let Some(job) = lowest_offender(jobs, n) {
         return Err(Refusal::JobBound { job });
     }
-    let mut parents = [0u32; 4096];
-    copy_parents(jobs, n, &mut parents);
-    check_parents(&parents[0..n + 1])?;
-    Ok(parents)
+    let mut row = [0u32; 4096];
+    copy_parents(jobs, &mut row[..n + 1]);
+    Parents::of(&row[..n + 1])
 }
 
 /// Takes the tree of the jobs 1 to `n` in: sets the chains of children in their records.
@@ -36,7 +35,6 @@ pub fn take_in<K: Amount>(jobs: &mut [Job<K>], n: usize) -> Result<(), Refusal>
     ensures same { OnErr result (jobs.new ≡ jobs.old) }
 {
     let parents = parents_of(jobs, n)?;
-    let chains = chains_of(&parents[0..n + 1])?;
-    set_chains(jobs, n, &chains.first, &chains.next);
+    set_chains(jobs, n, &parents.chains());
     Ok(())
 }

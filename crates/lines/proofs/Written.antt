@@ -1,12 +1,13 @@
--- The front of a row as the walk writes it, and the measure of the walk.
-use Rattle.std.proofs.Common.{◌≡◌, ℕ, suc, ◌+◌, ◌-◌, ◌*◌, ◌<◌, ◌≤◌, Bool, true, false, not, eqb, ◌⊎◌, List, [], ◌∷◌, ◌++◌, length, take, drop, set, sym, refl, ◌∙◌, inl, inr, add-mul, one-mul, add-one, arith}
-use Rattle.std.proofs.lemmas.List.{length_push, length-take-le, take_more_set, drop-set-lt}
-use Rattle.std.proofs.lemmas.Bool.{cases_eq, cases_Bool, both_ways, ne_eqb}
+-- A row as the walk writes it, and the measure of its way down.
+use Rattle.std.proofs.Common.{◌≡◌, ℕ, suc, ◌<◌, ◌≤◌, Bool, true, false, ◌⊎◌, List, [], ◌∷◌, ◌++◌, length, refl, inl, inr, arith}
+use Rattle.std.proofs.lemmas.List.{length_push}
+use Rattle.std.proofs.lemmas.Bool.{cases_eq, cases_Bool, both_ways}
 use Rattle.trees.specs.Sums.{In, sum, only}
-use Rattle.trees.specs.Trees.{Tree, NextChild, Chained, ChainedWhole, below}
+use Rattle.trees.specs.Trees.{Tree, NextChild, below}
 use Rattle.trees.specs.Lines.{place, Line, Plain}
 use Rattle.lines.specs.Checks.{Fit}
-use Rattle.trees.proofs.Sums.{sum_le, sum_ones}
+use Rattle.lines.specs.Walk.{Foremost}
+use Rattle.lines.specs.Walk.Foremost.{alone, deeper}
 use Rattle.lines.proofs.Sums.{sum_lt}
 use Rattle.lines.proofs.Upward.{Ranks, ranks, one_up, rises_up, below_trans}
 use Rattle.trees.proofs.Places.{place_low, place_high}
@@ -17,22 +18,10 @@ use Rattle.lines.proofs.Walk.{Walked, walk_starts, walk_down, walk_up, walk_asid
 abbrev pub under : ℕ → (ℕ → ℕ) → ℕ → ℕ
 under n par j = sum (λ k. only (below n par k j) 1) n
 
--- what is left to do: jobs to write, and then steps down
-abbrev pub left : ℕ → (ℕ → ℕ) → ℕ → ℕ → ℕ
-left n par t j = (n - t) * suc n + under n par j
-
-under_most : (n : ℕ) (par : ℕ → ℕ) (j : ℕ) → under n par j ≤ n
-under_most n par j = omega (arith, sum_le (λ k. only (below n par k j) 1) (λ k. 1) n (λ k i. grind arith), sum_ones n)
-
--- a job written leaves less
-pub left_written : (n : ℕ) (par : ℕ → ℕ) (t j b : ℕ) → t < n → left n par (suc t) b < left n par t j
-left_written n par t j b h =
-    let e : n - t ≡ (n - suc t) + 1 = omega arith in
-    rw e (omega (arith, add-mul (n - suc t) 1 (suc n), one-mul (suc n), under_most n par b))
-
--- and so does a step down
-pub left_down : (n : ℕ) (par : ℕ → ℕ) (t j c : ℕ) → Tree n par → In n j → NextChild n par j 0 c → (c ≡ 0 → ⊥) → left n par t c < left n par t j
-left_down n par t j c tree ij next some = omega (arith, less)
+-- fewer are below a child
+pub under_child : (n : ℕ) (par : ℕ → ℕ) (j c : ℕ) → Tree n par → In n j → NextChild n par j 0 c → (c ≡ 0 → ⊥) → under n par c < under n par j
+under_child n par j c tree ij next some =
+    sum_lt (λ k. only (below n par k c) 1) (λ k. only (below n par k j) 1) n c (λ k i. let z : below n par k c ≡ true → below n par k j ≡ true = λ h. below_trans n par rank n k c j i h up in grind arith) ic (let z = up in let y = self in grind arith)
   where
     of : (0 < c) × (c ≤ n) × (par c ≡ j) × ((k : ℕ) → 0 < k → k < c → par k ≡ j → ⊥)
     of = next.some some
@@ -48,9 +37,6 @@ left_down n par t j c tree ij next some = omega (arith, less)
 
     self : below n par c c ≡ true → ⊥
     self h = omega (arith, (rises_up n par rank c c ic h).0)
-
-    less : under n par c < under n par j
-    less = sum_lt (λ k. only (below n par k c) 1) (λ k. only (below n par k j) 1) n c (λ k i. let z : below n par k c ≡ true → below n par k j ≡ true = λ h. below_trans n par rank n k c j i h up in grind arith) ic (let z = up in let y = self in grind arith)
 
 -- the row l is written and the walk stands at j
 pub record Written (n : ℕ) (par : ℕ → ℕ) (l : List ℕ) (j : ℕ) (fresh : Bool) : Type 0 where
@@ -121,62 +107,48 @@ module _ (n : ℕ) (par : ℕ → ℕ) (tree : Tree n par) where
       go (inl f) = absurd (omega (arith, w.walked.awake f))
       go (inr f) = plain l w.fit (rw f at w.walked)
 
--- one turn of the walk, over the row that it writes: the first t cells are written
-module _ (n : ℕ) (par first next : ℕ → ℕ) (tree : Tree n par) (whole : ChainedWhole n par first next) where
-  chained : Chained n par first next
-  chained = whole.chained
+-- The walk stands at the next job to write, or is over if j is 0: what is below j is written.
+pub record Next (n : ℕ) (par : ℕ → ℕ) (l : List ℕ) (j : ℕ) : Type 0 where
+  pub fresh : Bool
+  pub written : Written n par l j fresh
+  pub leaf : fresh ≡ true → NextChild n par j 0 0
 
-  -- the walk starts at the child of 0, the root
-  pub top_job : In n (first 0) × (par (first 0) ≡ 0)
-  top_job = go (cases_eq (first 0) 0)
-    where
-      go : (first 0 ≡ 0) ⊎ (first 0 ≡ 0 → ⊥) → In n (first 0) × (par (first 0) ≡ 0)
-      go (inl e) = absurd (whole.top.none e tree.top tree.top_in.0 tree.top_in.1 tree.top_free)
-      go (inr e) = let z = whole.top.some e in ((z.0, z.1), z.2)
+module _ (n : ℕ) (par : ℕ → ℕ) (tree : Tree n par) where
+  -- from a fresh job the walk goes down to where its subtree begins
+  pub next_from : (l : List ℕ) {j r : ℕ} → Foremost n par j r → Written n par l j true → Next n par l r
+  next_from l (alone none) w = record { fresh = true; written = w; leaf = λ _. none }
+  next_from l (deeper next some more) w = next_from l more (down n par tree l _ true w _ refl next some)
 
-  -- what a turn leaves
-  abbrev pub Turned : List ℕ → List ℕ → ℕ → ℕ → Bool → Type 0
-  Turned old row t j fresh = (t ≤ n) × Written n par (take t row) j fresh × (drop n row ≡ drop n old)
+  -- the walk starts below the child of 0, which is the root
+  pub next_starts : (j r : ℕ) → NextChild n par 0 0 j → Foremost n par j r → Next n par [] r
+  next_starts j r top f = elim (cases_eq j 0) [
+    | inl e ↦ absurd (top.none e tree.top tree.top_in.0 tree.top_in.1 tree.top_free)
+    | inr some ↦
+        let is = top.some some in
+        next_from [] f (starts n par tree j (is.0, is.1) is.2)
+  ]
 
-  module _ (row : List ℕ) (t j : ℕ) (fresh : Bool) (long : n ≤ length row) (h : t ≤ n) (w : Written n par (take t row) j fresh) (some : j ≡ 0 → ⊥) where
-    turn_in : In n j
-    turn_in = omega (arith, w.walked.here)
+  module _ (l : List ℕ) (j : ℕ) (w : Next n par l j) where
+    pub next_in : (j ≡ 0 → ⊥) → In n j
+    next_in some = omega (arith, w.written.walked.here)
 
-    pub turn_room : t < n
-    turn_room = omega (arith, room n par tree (take t row) j fresh w turn_in, length-take-le t row (omega arith))
+    -- while cells are left the walk is not over
+    pub next_some : length l < n → j ≡ 0 → ⊥
+    next_some h e = omega (arith, (over n par tree l w.fresh (rw e at w.written)).postorder.line.size)
 
-    pub turn_down : fresh ≡ true → (first j ≡ 0 → ⊥) → Written n par (take t row) (first j) fresh
-    turn_down f c = rw f (down n par tree (take t row) j fresh w (first j) f (chained.firsts j turn_in) c)
+    pub next_up : In n j → NextChild n par (par j) j 0 → Next n par (l ++ j ∷ []) (par j)
+    next_up i next = record {
+      fresh = false;
+      written = up n par tree l j w.fresh w.written i w.leaf next;
+      leaf = λ f. absurd (both_ways false refl f);
+    }
 
-    pub turn_less : (first j ≡ 0 → ⊥) → left n par t (first j) < left n par t j
-    turn_less c = left_down n par t j (first j) tree turn_in (chained.firsts j turn_in) c
+    pub next_aside : {b r : ℕ} → In n j → NextChild n par (par j) j b → (b ≡ 0 → ⊥) → Foremost n par b r → Next n par (l ++ j ∷ []) r
+    next_aside i next some f = next_from (l ++ j ∷ []) f (aside n par tree l j w.fresh w.written _ i w.leaf next some)
 
-    pub turn_write : (b : ℕ) → left n par (t + 1) b < left n par t j
-    turn_write b = rw add-one (left_written n par t j b turn_room)
-
-    module _ (closed : ((fresh ≡ true) × (first j ≡ 0)) ⊎ (fresh ≡ false)) where
-      leaf : fresh ≡ true → NextChild n par j 0 0
-      leaf f = go closed
-        where
-          go : ((fresh ≡ true) × (first j ≡ 0)) ⊎ (fresh ≡ false) → NextChild n par j 0 0
-          go (inl e) = rw e.1 at (chained.firsts j turn_in)
-          go (inr e) = absurd (both_ways fresh e f)
-
-      front : (b : ℕ) (f g : Bool) → f ≡ g → Written n par (take t row ++ j ∷ []) b g → Turned row (set row t j) (t + 1) b f
-      front b f g e v =
-          let x = turn_room in
-          let y : t < length row = omega arith in
-          (omega arith, rw (take_more_set row t j y, e) v, drop-set-lt n row t j x)
-
-      pub turn_up : next j ≡ 0 → Turned row (set row t j) (t + 1) (par j) (not (eqb (next j) 0))
-      turn_up e = front (par j) (not (eqb (next j) 0)) false (rw e) (up n par tree (take t row) j fresh w turn_in leaf (rw e at (chained.nexts j turn_in)))
-
-      pub turn_aside : (next j ≡ 0 → ⊥) → Turned row (set row t j) (t + 1) (next j) (not (eqb (next j) 0))
-      turn_aside e = front (next j) (not (eqb (next j) 0)) true (rw (ne_eqb (next j) 0 e)) (aside n par tree (take t row) j fresh w (next j) turn_in leaf (chained.nexts j turn_in) e)
-
-  -- when the walk is over, the line stands in the front of the row
-  pub turn_over : (row : List ℕ) (t : ℕ) (fresh : Bool) → n ≤ length row → t ≤ n → Written n par (take t row) 0 fresh → Plain n par (take n row)
-  turn_over row t fresh long h w =
-      let p = over n par tree (take t row) fresh w in
-      let e : t ≡ n = sym (length-take-le t row (omega arith)) ∙ p.postorder.line.size in
-      rw e at p
+    -- when all cells are written the row is the plain line
+    pub next_over : length l ≡ n → Plain n par l
+    next_over e = elim (cases_eq j 0) [
+      | inl z ↦ over n par tree l w.fresh (rw z at w.written)
+      | inr some ↦ absurd (omega (arith, e, room n par tree l j w.fresh w.written (next_in some)))
+    ]

@@ -58,10 +58,5 @@ fn first_apart(end: usize, places: &[u32], sizes: &[u32], lows: &[u32]) -> Optio
     requires few { (k : ℕ) → In (end - 1) k → (slice_index places.now k ≤ 4095) × (slice_index sizes.now k ≤ 4095) × (slice_index lows.now k ≤ 4095) }
     ensures { Lowest (end - 1) (λ k. slice_index lows.now k + slice_index sizes.now k ≢ slice_index places.now k + 1) result }
 {
-    for job in 1..end {
-        if lows[job] + sizes[job] != places[job] + 1 {
-            return Some(job);
-        }
-    }
-    None
+    (1..end).find(|&job| lows[job] + sizes[job] != places[job] + 1)
 }

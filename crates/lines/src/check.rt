@@ -6,18 +6,24 @@ ghost use Rattle.lines.specs.Checks.{Misfit, Entered, Early, Placed};
 ghost use Rattle.lines.specs.Faults.{LineFault};
 
 use refusals::Refusal;
-use trees::check_parents;
+use trees::Parents;
 
 /// The position, from 1, of each job in a row that is a line of the tree; 0 where there is no job.
 pub fn positions(parents: &[u32], row: &[u32]) -> Result<[u32; 4096], Refusal>
     ensures { Judged (LineFault (jobs_in parents.now) (par_in parents.now) row.now) (Placed (jobs_in parents.now) (par_in parents.now) row.now) result }
 {
-    let jobs = check_parents(parents)?;
+    places_in(&Parents::of(parents)?, row)
+}
+
+/// The same, where the parents are known to make a tree.
+pub fn places_in(tree: &Parents, row: &[u32]) -> Result<[u32; 4096], Refusal>
+    ensures { Judged (LineFault (jobs_in tree.now) (par_in tree.now) row.now) (Placed (jobs_in tree.now) (par_in tree.now) row.now) result }
+{
     let mut places = [0u32; 4096];
-    if let Some(position) = first_misfit(jobs, row, &mut places) {
+    if let Some(position) = first_misfit(tree.jobs(), row, &mut places) {
         return Err(Refusal::LineEntry { position });
     }
-    if let Some(position) = first_early(parents, &places) {
+    if let Some(position) = first_early(tree, &places) {
         return Err(Refusal::LineOrder { position });
     }
     Ok(places)
@@ -44,23 +50,17 @@ fn first_misfit(jobs: usize, row: &[u32], places: &mut [u32]) -> Option<usize>
 }
 
 /// The first place of a parent that stands no later than one of its children.
-fn first_early(parents: &[u32], places: &[u32]) -> Option<usize>
-    requires long { jobs_in parents.now < length places.now }
-    requires inside { (k : ℕ) → In (jobs_in parents.now) k → par_in parents.now k ≤ jobs_in parents.now }
-    requires placed { (k : ℕ) → In (jobs_in parents.now) k → In (jobs_in parents.now) (slice_index places.now k) }
-    ensures { Lowest (jobs_in parents.now) (Early (jobs_in parents.now) (par_in parents.now) (λ k. slice_index places.now k)) result }
+fn first_early(tree: &Parents, places: &[u32]) -> Option<usize>
+    requires long { jobs_in tree.now < length places.now }
+    requires placed { (k : ℕ) → In (jobs_in tree.now) k → In (jobs_in tree.now) (slice_index places.now k) }
+    ensures { Lowest (jobs_in tree.now) (Early (jobs_in tree.now) (par_in tree.now) (λ k. slice_index places.now k)) result }
 {
-    let mut least = parents.len();
-    for job in 1..parents.len() {
-        let parent = parents[job] as usize;
-        let place = places[parent] as usize;
-        if parent != 0 && place <= places[job] as usize && place < least {
-            least = place;
-        }
-    }
-    if least < parents.len() {
-        Some(least)
-    } else {
-        None
-    }
+    let parents = tree.row();
+    (1..parents.len())
+        .filter_map(|job| {
+            let parent = parents[job] as usize;
+            let place = places[parent] as usize;
+            (parent != 0 && place <= places[job] as usize).then_some(place)
+        })
+        .min()
 }

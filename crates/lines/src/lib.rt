@@ -6,5 +6,5 @@ mod check;
 mod plain;
 
 pub use apart::lowest_apart;
-pub use check::positions;
-pub use plain::{one_plain_line, plain_line};
+pub use check::{places_in, positions};
+pub use plain::{one_plain_line, plain_in, plain_line};

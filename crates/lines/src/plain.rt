@@ -1,13 +1,15 @@
-ghost use Rattle.std.specs.Prelude.{◌≡◌, ◌+◌, ◌-◌, ◌<◌, ◌≤◌, length, take, drop, MatchResult, slice_index};
+ghost use Rattle.std.specs.Prelude.{◌≡◌, ℕ, ◌+◌, ◌-◌, ◌<◌, ◌≤◌, length, take, drop, MatchResult, slice_index};
 ghost use Rattle.refusals.specs.Judged.{Judged};
 ghost use Rattle.trees.specs.Found.{jobs_in, par_in};
 ghost use Rattle.trees.specs.Lines.{Plain};
-ghost use Rattle.trees.specs.Trees.{Tree, ChainedWhole};
+ghost use Rattle.trees.specs.Sums.{In};
+ghost use Rattle.trees.specs.Trees.{ChainedTree};
 ghost use Rattle.lines.specs.Faults.{RoomFault};
+ghost use Rattle.lines.specs.Walk.{Foremost};
 ghost use Rattle.lines.specs.Unique.{OnePlain};
 
 use refusals::Refusal;
-use trees::chains_of;
+use trees::{Chains, Parents};
 
 /// Writes the plain line of the tree into the front of the row: the postorder that takes children
 /// in rising numbers. The rest of the row stays.
@@ -15,44 +17,54 @@ pub fn plain_line(parents: &[u32], row: &mut [u32]) -> Result<(), Refusal>
     ensures judged { Judged (RoomFault (jobs_in parents.now) (par_in parents.now) (length row.old)) (λ _. Plain (jobs_in parents.now) (par_in parents.now) (take (jobs_in parents.now) row.new)) result }
     ensures rest { MatchResult result (λ _. drop (jobs_in parents.now) row.new ≡ drop (jobs_in parents.now) row.old) (λ _. row.new ≡ row.old) }
 {
-    let chains = chains_of(parents)?;
-    let needed = parents.len() - 1;
+    plain_in(&Parents::of(parents)?, row)
+}
+
+/// The same, where the parents are known to make a tree.
+pub fn plain_in(tree: &Parents, row: &mut [u32]) -> Result<(), Refusal>
+    ensures judged { Judged (RoomFault (jobs_in tree.now) (par_in tree.now) (length row.old)) (λ _. Plain (jobs_in tree.now) (par_in tree.now) (take (jobs_in tree.now) row.new)) result }
+    ensures rest { MatchResult result (λ _. drop (jobs_in tree.now) row.new ≡ drop (jobs_in tree.now) row.old) (λ _. row.new ≡ row.old) }
+{
+    let (needed, parents) = (tree.jobs(), tree.row());
     if row.len() < needed {
         return Err(Refusal::LineMemory { needed });
     }
-    write_line(parents, &chains.first, &chains.next, row);
+    write_line(parents, &tree.chains(), &mut row[..needed]);
     Ok(())
 }
 
-/// Walks the tree from the root, down to first children while there are any, then on to the next
-/// child or up, and writes each job as it is left.
-fn write_line(parents: &[u32], first: &[u32], next: &[u32], row: &mut [u32])
-    requires tree { Tree (jobs_in parents.now) (par_in parents.now) }
-    requires few { jobs_in parents.now ≤ 4095 }
-    requires chained { ChainedWhole (jobs_in parents.now) (par_in parents.now) (λ k. slice_index first.now k) (λ k. slice_index next.now k) }
-    requires long { (jobs_in parents.now < length first.now) × ((jobs_in parents.now < length next.now) × (jobs_in parents.now ≤ length row.old)) }
-    ensures line { Plain (jobs_in parents.now) (par_in parents.now) (take (jobs_in parents.now) row.new) }
-    ensures rest { drop (jobs_in parents.now) row.new ≡ drop (jobs_in parents.now) row.old }
+/// The job with which the plain line begins the subtree of `job`: down to first children while
+/// there are any.
+fn foremost(parents: &[u32], chains: &Chains, job: usize) -> usize
+    requires tree { ChainedTree (jobs_in parents.now) (par_in parents.now) (λ k. slice_index chains.now.first k) (λ k. slice_index chains.now.next k) }
+    requires job { In (jobs_in parents.now) job }
+    ensures begins { Foremost (jobs_in parents.now) (par_in parents.now) job result }
+    ensures inside { In (jobs_in parents.now) result }
 {
-    let mut job = first[0] as usize;
-    // nothing below the job is written yet
-    let mut fresh = true;
-    let mut count = 0;
-    while job != 0 {
-        let child = first[job] as usize;
-        if fresh && child != 0 {
-            job = child;
+    let mut job = job;
+    while chains.first[job] != 0 {
+        job = chains.first[job] as usize;
+    }
+    job
+}
+
+/// Writes each job as the walk leaves it: from the foremost job of the tree on to that of the next
+/// sibling's subtree, or up where there is none.
+fn write_line(parents: &[u32], chains: &Chains, row: &mut [u32])
+    requires tree { ChainedTree (jobs_in parents.now) (par_in parents.now) (λ k. slice_index chains.now.first k) (λ k. slice_index chains.now.next k) }
+    requires long { length row.old ≡ jobs_in parents.now }
+    ensures { Plain (jobs_in parents.now) (par_in parents.now) row.new }
+{
+    let root = chains.first[0] as usize;
+    let mut job = foremost(parents, chains, root);
+    for cell in row.iter_mut() {
+        *cell = job as u32;
+        let sibling = chains.next[job] as usize;
+        job = if sibling == 0 {
+            parents[job] as usize
         } else {
-            row[count] = job as u32;
-            count += 1;
-            let sibling = next[job] as usize;
-            fresh = sibling != 0;
-            job = if fresh {
-                sibling
-            } else {
-                parents[job] as usize
-            };
-        }
+            foremost(parents, chains, sibling)
+        };
     }
 }
 

@@ -1,22 +1,16 @@
 -- The first refusal of records with a row, from those of the records and of the row.
-use Rattle.std.proofs.Common.{ℕ, ◌<◌, List, get_or, Ok, Err, Result, inl, arith, lit<}
+use Rattle.std.proofs.Common.{ℕ, ◌<◌, List, inl, arith, lit<}
 use Rattle.refusals.specs.Told.{told}
-use Rattle.refusals.specs.Judged.{First, NotAfter, Judged}
+use Rattle.refusals.specs.Judged.{First, NotAfter}
 use Rattle.refusals.specs.declared.Refusal.{Refusal}
-use Rattle.trees.specs.declared.chains.Chains.{Chains}
-use Rattle.trees.specs.Trees.{ChainedTree}
-use Rattle.trees.specs.Lines.{Line}
-use Rattle.trees.specs.Faults.{ParentFault}
 use Rattle.trees.proofs.Numbers.{tree_number, row_number}
 use Rattle.lines.specs.Faults.{LineFault}
 use Rattle.lines.specs.Faults.LineFault.{untreed as of_Tree, unlined as of_row}
 use Rattle.jobs.specs.declared.Job.{Job}
 use Rattle.intake.specs.Faults.{TreeFault, par_of}
 use Rattle.intake.specs.Faults.TreeFault.{records, axes, bound, parents}
-use Rattle.intake.specs.Taken.{Sound}
 use Rattle.peaks.specs.Faults.{RunFault}
 use Rattle.peaks.specs.Faults.RunFault.{untreed, unlined}
-use Rattle.peaks.specs.Footing.{Footing}
 
 module _ {S : Type 0} (w : ℕ) (read : S → ℕ → ℕ) (xs : List (Job S)) (n : ℕ) (row : List ℕ) where
   pub number : {e : Refusal} → TreeFault w read xs n e → (told e).number < 9
@@ -48,9 +42,3 @@ module _ {S : Type 0} (w : ℕ) (read : S → ℕ → ℕ) (xs : List (Job S)) (
       pub no_fault : (e : Refusal) → RunFault w read xs n row e → ⊥
       no_fault e (untreed h) = treed e h
       no_fault e (unlined h) = lineless e (of_row h)
-
-      pub stands_firm : Sound w read xs n → Line n (par_of xs n) row → (r : Result Chains Refusal)
-          → Judged (ParentFault n (par_of xs n)) (λ c. ChainedTree n (par_of xs n) (λ k. get_or c.first k 0) (λ k. get_or c.next k 0)) r
-          → Judged (RunFault w read xs n row) (λ c. Footing w read xs n row c.first c.next) r
-      stands_firm sound line (Ok c) j = (no_fault, record { sound = sound; lined = line; chained = j.1.chains.chained })
-      stands_firm sound line (Err e) j = absurd (treed e (parents j.deserved))

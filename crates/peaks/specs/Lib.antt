@@ -1,4 +1,5 @@
 pub mod Faults
-pub mod Footing
 pub mod Stood
 pub mod Surveyed
+pub mod Walk
+pub mod Halls

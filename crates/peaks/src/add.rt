@@ -8,10 +8,7 @@ pub(crate) fn plus<K: Amount>(a: &K, b: &K) -> K
     requires { (k : ℕ) → K.Amount.reading a.now k + K.Amount.reading b.now k ≤ most }
     ensures { Same K.Amount.reading result (λ k. K.Amount.reading a.now k + K.Amount.reading b.now k) }
 {
-    match a.sum(b) {
-        Some(sum) => sum,
-        None => unreachable(),
-    }
+    a.sum(b).unwrap()
 }
 
 /// What is left of `a` without `b`, where no axis of `b` is above that of `a`.
@@ -19,8 +16,5 @@ pub(crate) fn minus<K: Amount>(a: &K, b: &K) -> K
     requires { (k : ℕ) → K.Amount.reading b.now k ≤ K.Amount.reading a.now k }
     ensures { (k : ℕ) → K.Amount.reading result k + K.Amount.reading b.now k ≡ K.Amount.reading a.now k }
 {
-    match a.difference(b) {
-        Some(rest) => rest,
-        None => unreachable(),
-    }
+    a.difference(b).unwrap()
 }

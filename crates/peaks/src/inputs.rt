@@ -1,4 +1,4 @@
-ghost use Rattle.std.specs.Prelude.{◌≡◌, ℕ, ◌<◌, ◌≤◌, length, slice_index};
+ghost use Rattle.std.specs.Prelude.{◌≡◌, ℕ, ◌<◌, ◌≤◌, slice_index};
 ghost use Rattle.trees.specs.Sums.{In};
 ghost use Rattle.trees.specs.Trees.{Chained, kids};
 ghost use Rattle.jobs.specs.Fields.{output_of};
@@ -8,27 +8,21 @@ ghost use Rattle.intake.specs.Taken.{Sound};
 use super::add::plus;
 use amounts::Amount;
 use jobs::Job;
+use trees::Chains;
 
 /// The inputs of job `i`: the sum of the outputs of its children, along their chain.
-pub(crate) fn inputs_of<K: Amount>(
-    jobs: &[Job<K>],
-    n: usize,
-    first: &[u32],
-    next: &[u32],
-    i: usize,
-) -> K
+pub(crate) fn inputs_of<K: Amount>(jobs: &[Job<K>], n: usize, chains: &Chains, i: usize) -> K
     requires sound { Sound K.Amount.width K.Amount.reading jobs.now n }
-    requires chained { Chained n (par_of jobs.now n) (λ k. slice_index first.now k) (λ k. slice_index next.now k) }
-    requires room { (n < length first.now) × (n < length next.now) }
+    requires chained { Chained n (par_of jobs.now n) (λ k. slice_index chains.now.first k) (λ k. slice_index chains.now.next k) }
     requires job { In n i }
     ensures { (a : ℕ) → K.Amount.reading result a ≡ kids n (par_of jobs.now n) (output_of K.Amount.reading jobs.now a) i }
 {
     let mut total = K::zero();
-    let mut child = first[i] as usize;
+    let mut child = chains.first[i] as usize;
     while child != 0 {
         let job = &jobs[child];
         total = plus(&total, &job.output);
-        child = next[child] as usize;
+        child = chains.next[child] as usize;
     }
     total
 }

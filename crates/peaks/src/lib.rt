@@ -2,10 +2,12 @@
 #![tactic(auto)]
 
 mod add;
+mod hall;
 mod inputs;
 mod run;
-mod stand;
 mod survey;
+mod walk;
 
+pub use hall::check_hall;
 pub use run::{first_over, peak, standing};
 pub use survey::{Survey, survey_of};

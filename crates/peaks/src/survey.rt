@@ -6,9 +6,9 @@ ghost use Rattle.peaks.specs.Surveyed.{Surveyed};
 use amounts::Amount;
 use intake::parents_of;
 use jobs::Job;
-use lines::positions;
+use lines::places_in;
 use refusals::Refusal;
-use trees::{Chains, chains_of};
+use trees::Chains;
 
 /// What the checks of a tree and its line find out on their way.
 #[derive(Drop)]
@@ -24,7 +24,9 @@ pub fn survey_of<K: Amount>(jobs: &[Job<K>], n: usize, line: &[u32]) -> Result<S
     ensures { Judged (RunFault K.Amount.width K.Amount.reading jobs.now n line.now) (Surveyed K.Amount.width K.Amount.reading jobs.now n line.now) result }
 {
     let parents = parents_of(jobs, n)?;
-    let places = positions(&parents[0..n + 1], line)?;
-    let chains = chains_of(&parents[0..n + 1])?;
-    Ok(Survey { chains, places })
+    let places = places_in(&parents, line)?;
+    Ok(Survey {
+        chains: parents.chains(),
+        places,
+    })
 }

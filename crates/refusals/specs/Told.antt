@@ -1,7 +1,7 @@
 -- How a refusal is told: its number, the layer that refuses, the place and, in a text, the column.
-use Rattle.std.specs.Prelude.{ℕ}
+use Rattle.std.specs.Prelude.{ℕ, List, ◌∷◌, ◌++◌, codes, decimal}
 use Rattle.refusals.specs.declared.Refusal.{Refusal}
-use Rattle.refusals.specs.declared.Refusal.TheVariants.{TextSize, TextByte, TextNumber, JobCount, TooManyAxes, JobBound, ParentMissing, Roots, RootUnreached, LineEntry, LineOrder, Benches, Floor, BookingWork, BookingOutput, BookingApart, FloorExceeded, BenchUnknown, JobUnknown, LineMemory, RowMemory, SheetMemory, EntryMemory, LeadMemory, BenchBusy, BenchIdle, AllStarted, NoneNamed, Altered}
+use Rattle.refusals.specs.declared.Refusal.TheVariants.{TextSize, TextByte, TextNumber, JobCount, TooManyAxes, JobBound, ParentMissing, NoRoot, SecondRoot, RootUnreached, LineEntry, LineOrder, Benches, Floor, BookingWork, BookingOutput, BookingApart, FloorExceeded, BenchUnknown, JobUnknown, LineMemory, RowMemory, SheetMemory, EntryMemory, LeadMemory, BenchBusy, BenchIdle, AllStarted, NoneNamed, Altered}
 
 pub record Told : Type 0 where
   pub number : ℕ
@@ -23,7 +23,8 @@ told (JobCount jobs) = outside 4 2 jobs
 told TooManyAxes = outside 5 2 0
 told (JobBound job) = outside 5 2 job
 told (ParentMissing job) = outside 6 2 job
-told (Roots second) = outside 7 2 second
+told NoRoot = outside 7 2 0
+told (SecondRoot job) = outside 7 2 job
 told (RootUnreached job) = outside 8 2 job
 told (LineEntry position) = outside 9 3 position
 told (LineOrder position) = outside 10 3 position
@@ -45,3 +46,8 @@ told (BenchIdle bench) = outside 22 4 bench
 told (AllStarted bench) = outside 23 4 bench
 told (NoneNamed bench) = outside 24 4 bench
 told (Altered bench) = outside 25 4 bench
+
+-- the word and the numbers, parted by spaces
+abbrev pub refused : Refusal → List ℕ
+refused e =
+    codes "refused " ++ (decimal (told e).layer ++ (32 ∷ (decimal (told e).number ++ (32 ∷ (decimal (told e).place ++ (32 ∷ decimal (told e).column))))))

@@ -2,15 +2,16 @@
 //! bounds that are refused when they are passed.
 #![tactic(auto)]
 
-ghost use Rattle.std.specs.Prelude.{◌≡◌, ℕ, ◌<◌, ◌≤◌, ◌⊎◌};
+ghost use Rattle.std.specs.Prelude.{◌≡◌, ℕ, ◌<◌, ◌≤◌, ◌⊎◌, Some};
 ghost use Rattle.refusals.specs.Judged.{OrderDecides};
-ghost use Rattle.refusals.specs.Told.{told};
+ghost use Rattle.refusals.specs.Told.{told, refused};
 
 mod bounds;
 
 pub use bounds::{
     AXIS_BOUND, FLOOR_BOUND, MINUTES_BOUND, MOST_AXES, MOST_BENCHES, MOST_BYTES, MOST_JOBS,
 };
+use std::fmt;
 
 /// Why a call was refused. What a case carries is told as its place; a text is told by line and
 /// column.
@@ -30,8 +31,10 @@ pub enum Refusal {
     JobBound { job: usize },
     /// The job's parent is above the job count.
     ParentMissing { job: usize },
-    /// There is a second root, or none: then 0 stands for it.
-    Roots { second: usize },
+    /// Every job has a parent.
+    NoRoot,
+    /// The job is the second without a parent.
+    SecondRoot { job: usize },
     /// The job's parents never reach the root.
     RootUnreached { job: usize },
     /// The line lacks this position, its job number is no job's or stood earlier, or the line goes
@@ -89,7 +92,7 @@ impl Refusal {
             Refusal::JobCount { .. } => 4,
             Refusal::TooManyAxes | Refusal::JobBound { .. } => 5,
             Refusal::ParentMissing { .. } => 6,
-            Refusal::Roots { .. } => 7,
+            Refusal::NoRoot | Refusal::SecondRoot { .. } => 7,
             Refusal::RootUnreached { .. } => 8,
             Refusal::LineEntry { .. } => 9,
             Refusal::LineOrder { .. } => 10,
@@ -118,15 +121,11 @@ impl Refusal {
     pub fn layer(&self) -> u32
         ensures { result ≡ (told self.now).layer }
     {
-        let number = self.number();
-        if number <= 3 {
-            1
-        } else if number <= 8 {
-            2
-        } else if number <= 10 {
-            3
-        } else {
-            4
+        match self.number() {
+            ..=3 => 1,
+            ..=8 => 2,
+            ..=10 => 3,
+            _ => 4,
         }
     }
 
@@ -139,11 +138,11 @@ impl Refusal {
             Refusal::JobCount { jobs } => jobs,
             Refusal::JobBound { job }
             | Refusal::ParentMissing { job }
+            | Refusal::SecondRoot { job }
             | Refusal::RootUnreached { job }
             | Refusal::BookingWork { job }
             | Refusal::BookingOutput { job }
             | Refusal::BookingApart { job } => job,
-            Refusal::Roots { second } => second,
             Refusal::LineEntry { position }
             | Refusal::LineOrder { position }
             | Refusal::FloorExceeded { position } => position,
@@ -159,6 +158,7 @@ impl Refusal {
             | Refusal::Altered { bench } => bench,
             Refusal::TextSize
             | Refusal::TooManyAxes
+            | Refusal::NoRoot
             | Refusal::Benches
             | Refusal::Floor
             | Refusal::BenchUnknown
@@ -174,6 +174,17 @@ impl Refusal {
             Refusal::TextByte { column, .. } | Refusal::TextNumber { column, .. } => column,
             _ => 0,
         }
+    }
+}
+
+/// The word `refused`, and the four numbers by which the refusal is told.
+impl fmt::Display for Refusal {
+    ghost output = { λ e. Some (refused e) };
+
+    fn fmt<W: fmt::Write>(&self, f: &mut fmt::Formatter<W>) -> fmt::Result {
+        let (layer, number) = (self.layer(), self.number());
+        let (place, column) = (self.place(), self.column());
+        write!(f, "refused {layer} {number} {place} {column}")
     }
 }
 

@@ -4,10 +4,10 @@ use Rattle.std.proofs.lemmas.Bool.{cases_lt}
 use Rattle.refusals.specs.Told.{told}
 use Rattle.refusals.specs.Judged.{First, NotAfter}
 use Rattle.refusals.specs.declared.Refusal.{Refusal}
-use Rattle.refusals.specs.declared.Refusal.TheVariants.{JobCount, ParentMissing, Roots, RootUnreached}
+use Rattle.refusals.specs.declared.Refusal.TheVariants.{JobCount, ParentMissing, NoRoot, SecondRoot, RootUnreached}
 use Rattle.trees.specs.Sums.{In}
 use Rattle.trees.specs.Trees.{Reaches, Tree}
-use Rattle.trees.specs.Found.{OneRoot, SecondRoot}
+use Rattle.trees.specs.Found.{OneRoot, TwoRoots}
 use Rattle.trees.specs.Faults.{ParentFault}
 use Rattle.trees.specs.Faults.ParentFault.{count, missing, rootless, second, unreached}
 
@@ -45,18 +45,18 @@ module _ (n : ℕ) (par : ℕ → ℕ) where
       first_missing i h = record { deserved = missing x i h; first = λ d f. after_missing f }
 
     module _ (parented : Parented) where
-      after_rootless : ((k : ℕ) → In n k → par k ≡ 0 → ⊥) → {d : Refusal} → ParentFault n par d → NotAfter (told (Roots 0)) (told d)
+      after_rootless : ((k : ℕ) → In n k → par k ≡ 0 → ⊥) → {d : Refusal} → ParentFault n par d → NotAfter (told NoRoot) (told d)
       after_rootless r (count h) = absurd (miscounted counted h)
       after_rootless r (missing i a b) = absurd (parented i a b)
       after_rootless r (rootless h) = inr (refl, omega arith)
       after_rootless r (second i j a b c e f) = absurd (r i a e)
       after_rootless r (unreached i a b) = inl (lit< tt)
 
-      pub first_rootless : ((k : ℕ) → In n k → par k ≡ 0 → ⊥) → First (ParentFault n par) (Roots 0)
+      pub first_rootless : ((k : ℕ) → In n k → par k ≡ 0 → ⊥) → First (ParentFault n par) NoRoot
       first_rootless r = record { deserved = rootless r; first = λ d f. after_rootless r f }
 
-      module _ (x y : ℕ) (s : SecondRoot n par x y) where
-        after_second : {d : Refusal} → ParentFault n par d → NotAfter (told (Roots y)) (told d)
+      module _ (x y : ℕ) (s : TwoRoots n par x y) where
+        after_second : {d : Refusal} → ParentFault n par d → NotAfter (told (SecondRoot y)) (told d)
         after_second (count h) = absurd (miscounted counted h)
         after_second (missing i a b) = absurd (parented i a b)
         after_second (rootless h) = absurd (h x s.early s.early_free)
@@ -70,7 +70,7 @@ module _ (n : ℕ) (par : ℕ → ℕ) where
             )
         after_second (unreached i a b) = inl (lit< tt)
 
-        pub first_second : First (ParentFault n par) (Roots y)
+        pub first_second : First (ParentFault n par) (SecondRoot y)
         first_second =
             record {
               deserved = second x y s.early s.late s.order s.early_free s.late_free;
@@ -109,3 +109,8 @@ module _ (n : ℕ) (par : ℕ → ℕ) where
               one_top = o.one_top;
               reaches = r;
             }
+
+-- the parents of a tree are not refused
+pub tree_none : (n : ℕ) (par : ℕ → ℕ) → 1 ≤ n → n ≤ 4095 → Tree n par → (d : Refusal) → ParentFault n par d → ⊥
+tree_none n par some few tree =
+    no_fault n par (some, few) (λ k i h. omega (arith, tree.parents k i, h)) record { top = tree.top; top_in = tree.top_in; top_free = tree.top_free; one_top = tree.one_top } tree.reaches

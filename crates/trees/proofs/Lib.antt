@@ -1,3 +1,4 @@
+pub mod Cells
 pub mod Firsts
 pub mod Links
 pub mod Numbers

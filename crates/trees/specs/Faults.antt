@@ -1,7 +1,7 @@
 -- What a row of parents, and a row handed in as a line, can be refused for.
 use Rattle.std.specs.Prelude.{◌≡◌, ℕ, ◌+◌, ◌<◌, ◌≤◌, ◌⊎◌, List, length, ◌≢◌}
 use Rattle.refusals.specs.declared.Refusal.{Refusal}
-use Rattle.refusals.specs.declared.Refusal.TheVariants.{JobCount, ParentMissing, Roots, RootUnreached, LineEntry, LineOrder}
+use Rattle.refusals.specs.declared.Refusal.TheVariants.{JobCount, ParentMissing, NoRoot, SecondRoot, RootUnreached, LineEntry, LineOrder}
 use Rattle.trees.specs.Sums.{In}
 use Rattle.trees.specs.Trees.{Reaches}
 use Rattle.trees.specs.Lines.{entry, place}
@@ -10,8 +10,8 @@ use Rattle.trees.specs.Lines.{entry, place}
 pub data ParentFault (n : ℕ) (par : ℕ → ℕ) : Refusal → Type 0 where
   count : (n ≡ 0) ⊎ (4095 < n) → ParentFault n par (JobCount n)
   missing : (i : ℕ) → In n i → n < par i → ParentFault n par (ParentMissing i)
-  rootless : ((i : ℕ) → In n i → par i ≢ 0) → ParentFault n par (Roots 0)
-  second : (i j : ℕ) → In n i → In n j → i < j → par i ≡ 0 → par j ≡ 0 → ParentFault n par (Roots j)
+  rootless : ((i : ℕ) → In n i → par i ≢ 0) → ParentFault n par NoRoot
+  second : (i j : ℕ) → In n i → In n j → i < j → par i ≡ 0 → par j ≡ 0 → ParentFault n par (SecondRoot j)
   unreached : (i : ℕ) → In n i → (Reaches par i → ⊥) → ParentFault n par (RootUnreached i)
 
 -- the row lacks position p, or has no job there, or one that stands earlier too

@@ -1,5 +1,7 @@
 -- What a search over the jobs 1 to n finds.
-use Rattle.std.specs.Prelude.{◌≡◌, ℕ, ◌-◌, ◌<◌, ◌⊎◌, List, length, Option, MatchOption, ◌≢◌, slice_index}
+use Rattle.std.specs.Prelude.{◌≡◌, ℕ, ◌-◌, ◌<◌, ◌⊎◌, List, length, Option, MatchOption, Ok, Err, Result, ◌≢◌, slice_index}
+use Rattle.refusals.specs.declared.Refusal.{Refusal}
+use Rattle.refusals.specs.declared.Refusal.TheVariants.{NoRoot, SecondRoot}
 use Rattle.trees.specs.Sums.{In}
 use Rattle.trees.specs.Trees.{Reaches}
 
@@ -29,7 +31,7 @@ pub record OneRoot (n : ℕ) (par : ℕ → ℕ) : Type 0 where
   pub one_top : (k : ℕ) → In n k → par k ≡ 0 → k ≡ top
 
 -- j is the second root: i alone is one before it
-pub record SecondRoot (n : ℕ) (par : ℕ → ℕ) (i j : ℕ) : Type 0 where
+pub record TwoRoots (n : ℕ) (par : ℕ → ℕ) (i j : ℕ) : Type 0 where
   pub early : In n i
   pub late : In n j
   pub order : i < j
@@ -37,7 +39,8 @@ pub record SecondRoot (n : ℕ) (par : ℕ → ℕ) (i j : ℕ) : Type 0 where
   pub late_free : par j ≡ 0
   pub only_early : (k : ℕ) → In n k → k < j → par k ≡ 0 → k ≡ i
 
--- none if there is just one root; else the second, or 0 if there is no root at all
-abbrev pub Second : ℕ → (ℕ → ℕ) → Option ℕ → Type 0
-Second n par r =
-    MatchOption r (OneRoot n par) (λ j. ((j ≡ 0) × ((k : ℕ) → In n k → par k ≢ 0)) ⊎ ((i : ℕ) × SecondRoot n par i j))
+-- granted if there is just one root; else the second is refused, or that there is none
+abbrev pub Roots : ℕ → (ℕ → ℕ) → Result (Unit {0}) Refusal → Type 0
+Roots n par (Ok _) = OneRoot n par
+Roots n par (Err e) =
+    ((e ≡ NoRoot) × ((k : ℕ) → In n k → par k ≢ 0)) ⊎ ((i : ℕ) × (j : ℕ) × (e ≡ SecondRoot j) × TwoRoots n par i j)

@@ -1,11 +1,10 @@
 ghost use Rattle.std.specs.Prelude.{◌≡◌, ℕ, ◌-◌, ◌<◌, ◌≤◌, length, slice_index};
 ghost use Rattle.refusals.specs.Judged.{Judged};
-ghost use Rattle.trees.specs.Sums.{In};
-ghost use Rattle.trees.specs.Trees.{ChainedTree, ChainedWhole};
+ghost use Rattle.trees.specs.Trees.{Tree, ChainedTree, ChainedWhole};
 ghost use Rattle.trees.specs.Faults.{ParentFault};
 ghost use Rattle.trees.specs.Found.{jobs_in, par_in};
 
-use super::parents::check_parents;
+use super::parents::Parents;
 use refusals::Refusal;
 
 /// The children of each job of a tree in rising numbers, as chains: the lowest child of a job, and
@@ -18,11 +17,9 @@ pub struct Chains {
 
 /// Links the jobs from the last down, so that each comes in front of its higher siblings.
 fn link(parents: &[u32], first: &mut [u32], next: &mut [u32])
-    requires few { length parents.now ≤ 4096 }
-    requires inside { (k : ℕ) → In (jobs_in parents.now) k → par_in parents.now k ≤ jobs_in parents.now }
+    requires tree { (jobs_in parents.now ≤ 4095) × Tree (jobs_in parents.now) (par_in parents.now) }
     requires room { (length parents.now ≤ length first.old) × (length parents.now ≤ length next.old) }
     requires clear { (k : ℕ) → (slice_index first.old k ≡ 0) × (slice_index next.old k ≡ 0) }
-    requires some { 1 ≤ length parents.now }
     ensures { ChainedWhole (jobs_in parents.now) (par_in parents.now) (λ k. slice_index first.new k) (λ k. slice_index next.new k) }
 {
     for job in (1..parents.len()).rev() {
@@ -32,13 +29,21 @@ fn link(parents: &[u32], first: &mut [u32], next: &mut [u32])
     }
 }
 
+impl Parents {
+    /// The chains of the tree.
+    pub fn chains(&self) -> Chains
+        ensures { ChainedTree (jobs_in self.now) (par_in self.now) (λ k. slice_index result.first k) (λ k. slice_index result.next k) }
+    {
+        let mut first = [0u32; 4096];
+        let mut next = [0u32; 4096];
+        link(self.row(), &mut first, &mut next);
+        Chains { first, next }
+    }
+}
+
 /// The chains of the tree that the parents make.
 pub fn chains_of(parents: &[u32]) -> Result<Chains, Refusal>
     ensures { Judged (ParentFault (jobs_in parents.now) (par_in parents.now)) (λ c. ChainedTree (jobs_in parents.now) (par_in parents.now) (λ k. slice_index c.first k) (λ k. slice_index c.next k)) result }
 {
-    check_parents(parents)?;
-    let mut first = [0u32; 4096];
-    let mut next = [0u32; 4096];
-    link(parents, &mut first, &mut next);
-    Ok(Chains { first, next })
+    Ok(Parents::of(parents)?.chains())
 }

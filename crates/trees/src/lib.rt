@@ -6,4 +6,4 @@ mod parents;
 mod reach;
 
 pub use chains::{Chains, chains_of};
-pub use parents::check_parents;
+pub use parents::{Parents, check_parents};

@@ -1,57 +1,100 @@
-ghost use Rattle.std.specs.Prelude.{◌≡◌, ℕ, ◌-◌, ◌<◌, ◌≤◌, ◌⊎◌, length};
+ghost use Rattle.std.specs.Prelude.{◌≡◌, ℕ, List, ◌+◌, ◌-◌, ◌<◌, ◌≤◌, length, take, MatchOption};
 ghost use Rattle.refusals.specs.Judged.{Judged};
+ghost use Rattle.trees.specs.Sums.{In};
 ghost use Rattle.trees.specs.Trees.{Tree};
 ghost use Rattle.trees.specs.Faults.{ParentFault};
-ghost use Rattle.trees.specs.Found.{jobs_in, par_in, Lowest, Second};
+ghost use Rattle.trees.specs.Found.{jobs_in, par_in, Lowest, Roots};
 
 use super::reach::lowest_unreached;
 use refusals::{MOST_JOBS, Refusal};
+use std::marker::Model;
+
+/// The parents of the jobs of a tree: that of job `i` stands at `i`, 0 for the root; the first cell
+/// is spare.
+#[derive(Drop)]
+pub struct Parents {
+    cells: [u32; 4096],
+    jobs: usize,
+}
+
+impl Model for Parents {
+    ghost Value = { List ℕ };
+
+    ghost view = { λ p. take (p.jobs + 1) p.cells };
+
+    ghost invariant = { λ p. (1 ≤ p.jobs) × (p.jobs ≤ 4095) × (length p.cells ≡ 4096) × Tree p.jobs (par_in (take (p.jobs + 1) p.cells)) };
+}
+
+impl Parents {
+    /// A copy of the row, where it makes a tree.
+    pub fn of(row: &[u32]) -> Result<Parents, Refusal>
+        ensures { Judged (ParentFault (jobs_in row.now) (par_in row.now)) (λ t. (t ≡ row.now) × (1 ≤ jobs_in row.now) × (jobs_in row.now ≤ 4095) × Tree (jobs_in row.now) (par_in row.now)) result }
+    {
+        let jobs = row.len().saturating_sub(1);
+        if jobs == 0 || jobs > MOST_JOBS {
+            return Err(Refusal::JobCount { jobs });
+        }
+        if let Some(job) = lowest_missing(row) {
+            return Err(Refusal::ParentMissing { job });
+        }
+        one_root(row)?;
+        if let Some(job) = lowest_unreached(row) {
+            return Err(Refusal::RootUnreached { job });
+        }
+        let mut cells = [0u32; 4096];
+        cells[..row.len()].copy_from_slice(row);
+        Ok(Parents { cells, jobs })
+    }
+
+    /// The parents, from the spare cell on.
+    pub fn row(&self) -> &[u32]
+        ensures row { result.now ≡ self.now }
+        ensures tree { (1 ≤ jobs_in self.now) × (jobs_in self.now ≤ 4095) × Tree (jobs_in self.now) (par_in self.now) }
+    {
+        &self.cells[..self.jobs + 1]
+    }
+
+    /// The number of jobs.
+    pub fn jobs(&self) -> usize
+        ensures count { result ≡ jobs_in self.now }
+        ensures tree { (1 ≤ jobs_in self.now) × (jobs_in self.now ≤ 4095) × Tree (jobs_in self.now) (par_in self.now) }
+    {
+        self.jobs
+    }
+}
 
 /// The number of jobs, where their parents make a tree. The parent of job `i` stands at `i`, 0 for
 /// the root; the first cell is spare.
 pub fn check_parents(parents: &[u32]) -> Result<usize, Refusal>
     ensures { Judged (ParentFault (jobs_in parents.now) (par_in parents.now)) (λ n. (n ≡ jobs_in parents.now) × (1 ≤ n) × (n ≤ 4095) × Tree (jobs_in parents.now) (par_in parents.now)) result }
 {
-    let jobs = parents.len().saturating_sub(1);
-    if jobs == 0 || jobs > MOST_JOBS {
-        return Err(Refusal::JobCount { jobs });
-    }
-    if let Some(job) = lowest_missing(parents) {
-        return Err(Refusal::ParentMissing { job });
-    }
-    if let Some(second) = second_root(parents) {
-        return Err(Refusal::Roots { second });
-    }
-    if let Some(job) = lowest_unreached(parents) {
-        return Err(Refusal::RootUnreached { job });
-    }
-    Ok(jobs)
+    Ok(Parents::of(parents)?.jobs())
 }
 
 /// The lowest job whose parent is above the job count.
 fn lowest_missing(parents: &[u32]) -> Option<usize>
     ensures { Lowest (jobs_in parents.now) (λ k. jobs_in parents.now < par_in parents.now k) result }
 {
-    for child in 1..parents.len() {
-        if parents[child] as usize >= parents.len() {
-            return Some(child);
-        }
-    }
-    None
+    (1..parents.len()).find(|&job| parents[job] as usize >= parents.len())
 }
 
-/// The second root, or 0 where there is no root at all.
-fn second_root(parents: &[u32]) -> Option<usize>
-    ensures { Second (jobs_in parents.now) (par_in parents.now) result }
+/// The first job from `start` on that has no parent.
+fn next_root(parents: &[u32], start: usize) -> Option<usize>
+    requires { 1 ≤ start }
+    ensures { MatchOption result ((k : ℕ) → start ≤ k → k ≤ jobs_in parents.now → par_in parents.now k ≡ 0 → ⊥) (λ i. (start ≤ i) × (i ≤ jobs_in parents.now) × (par_in parents.now i ≡ 0) × ((k : ℕ) → start ≤ k → k < i → par_in parents.now k ≡ 0 → ⊥)) }
 {
-    let mut root = 0;
-    for job in 1..parents.len() {
-        if parents[job] == 0 {
-            if root != 0 {
-                return Some(job);
-            }
-            root = job;
-        }
+    (start..parents.len()).find(|&job| parents[job] == 0)
+}
+
+/// Just one job has no parent.
+fn one_root(parents: &[u32]) -> Result<(), Refusal>
+    ensures { Roots (jobs_in parents.now) (par_in parents.now) result }
+{
+    let Some(root) = next_root(parents, 1) else {
+        return Err(Refusal::NoRoot);
+    };
+    match next_root(parents, root + 1) {
+        Some(job) => Err(Refusal::SecondRoot { job }),
+        None => Ok(()),
     }
-    if root == 0 { Some(0) } else { None }
 }

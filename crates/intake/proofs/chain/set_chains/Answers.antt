@@ -11,12 +11,12 @@ offset_bounds-jobs-i-in-loop-i g c = let h : c.loop-i.i < length c.args.jobs.now
 
 pub loop-i-init : goal.loop-i-init
 loop-i-init g c =
-    (omega arith, none_rechained (λ k. get_or c.args.first.now k 0) (λ k. get_or c.args.next.now k 0) c.args.jobs.now)
+    (omega arith, none_rechained (λ k. get_or c.args.chains.now.first k 0) (λ k. get_or c.args.chains.now.next k 0) c.args.jobs.now)
 
 pub loop-i-preserved : goal.loop-i-preserved
 loop-i-preserved g c =
-    let first : ℕ → ℕ = λ k. get_or c.args.first.now k 0 in
-    let next : ℕ → ℕ = λ k. get_or c.args.next.now k 0 in
+    let first : ℕ → ℕ = λ k. get_or c.args.chains.now.first k 0 in
+    let next : ℕ → ℕ = λ k. get_or c.args.chains.now.next k 0 in
     let i = c.loop-i.i in
     let job = c.index-jobs-i in
     let back : i ≡ i + 1 - 1 = omega arith in
@@ -26,4 +26,4 @@ loop-i-preserved g c =
 pub returns : goal.returns
 returns g c =
     let all : c.loop-i.i - 1 ≡ c.args.n = omega (arith, c.loop-i.auto.i-end (omega arith)) in
-    subst (λ m. Rechained m (λ k. get_or c.args.first.now k 0) (λ k. get_or c.args.next.now k 0) c.args.jobs.now c.loop-i.jobs) all c.loop-i.invariant.1
+    subst (λ m. Rechained m (λ k. get_or c.args.chains.now.first k 0) (λ k. get_or c.args.chains.now.next k 0) c.args.jobs.now c.loop-i.jobs) all c.loop-i.invariant.1

@@ -1,10 +1,15 @@
-use Rattle.std.proofs.Common.{◌+◌, ◌<◌, ◌≤◌, length, inl, inr, arith}
-use Rattle.refusals.specs.Judged.{First}
+use Rattle.std.proofs.Common.{◌≡◌, ℕ, ◌+◌, ◌<◌, ◌≤◌, List, length, take, replicate, Result, Ok, Err, ◌∙◌, inl, inr, arith}
+use Rattle.refusals.specs.Judged.{First, Judged}
 use Rattle.refusals.specs.declared.Refusal.{Refusal}
+use Rattle.trees.specs.Found.{jobs_in, par_in}
+use Rattle.trees.specs.Sums.{In}
 use Rattle.trees.specs.Trees.{Tree}
 use Rattle.trees.specs.Faults.{ParentFault}
-use Rattle.std.proofs.lemmas.Result.{err_from_is_err_and}
-use Rattle.intake.proofs.Rows.{by_slice, past_zero}
+use Rattle.trees.proofs.Cells.{front, front_blank}
+use Rattle.jobs.specs.declared.Job.{Job}
+use Rattle.intake.specs.Faults.{TreeFault, Above, parent_row}
+use Rattle.intake.specs.Taken.{Sound}
+use Rattle.intake.proofs.Rows.{by_row}
 use Rattle.intake.proofs.Firsts.{first_count, first_axes, first_bound, first_parents, no_fault}
 use Rattle.intake.proofs.tree.parents_of.Goals as goal
 
@@ -27,31 +32,22 @@ returns-in-Some g c =
     first_bound g.K.Amount.width g.K.Amount.reading c.args.jobs.now c.args.n (omega arith) (omega arith) (omega arith) (omega (arith, c.count.ensures))
     c.in-Some.job found.2 found.0 found.1
 
-pub returns-in_err-check_parents : goal.returns-in_err-check_parents
-returns-in_err-check_parents g c =
-    let p = err_from_is_err_and c.from_residual.result c.from_residual.ensures.1 in
-    let jobs = c.args.jobs.now in
-    let n = c.args.n in
-    let room : n < length jobs = omega arith in
-    let e = c.in_err-check_parents.field-0.0 in
-    rw (p.1, p.2) (first_parents g.K.Amount.width g.K.Amount.reading jobs n (omega arith) (omega arith) room (omega (arith, c.count.ensures)) c.in_default.ensures e
-    (by_slice jobs n room (λ m par. First (ParentFault m par) e) c.copy_parents.new.parents c.copy_parents.ensures.copied c.in_err-check_parents.ensures))
+-- what the check of the parents says of the records
+settled : {S : Type 0} (w : ℕ) (read : S → ℕ → ℕ) (xs : List (Job S)) (n : ℕ) → 1 ≤ n → n ≤ 4095 → n < length xs → w ≤ 64 → ((k : ℕ) → In n k → Above w read xs k → ⊥)
+    → (row : List ℕ) → row ≡ parent_row xs n → (r : Result (List ℕ) Refusal)
+    → Judged (ParentFault (jobs_in row) (par_in row)) (λ t. (t ≡ row) × (1 ≤ jobs_in row) × (jobs_in row ≤ 4095) × Tree (jobs_in row) (par_in row)) r
+    → Judged (TreeFault w read xs n) (λ t. Sound w read xs n × (t ≡ parent_row xs n)) r
+settled w read xs n some few room narrow held row e (Ok t) (none, is) = (
+  no_fault w read xs n some few room narrow held (by_row xs n room (λ m par. (d : Refusal) → ParentFault m par d → ⊥) row e none),
+  (record { some = some; few = few; records = room; axes = narrow; bounds = held; tree = by_row xs n room Tree row e is.3 }, is.0 ∙ e),
+)
+settled w read xs n some few room narrow held row e (Err d) first =
+    first_parents w read xs n some few room narrow held d (by_row xs n room (λ m par. First (ParentFault m par) d) row e first)
 
 pub returns : goal.returns
 returns g c =
-    let jobs = c.args.jobs.now in
-    let n = c.args.n in
-    let w = g.K.Amount.width in
-    let read = g.K.Amount.reading in
-    let room : n < length jobs = omega arith in
-    let good = c.in_ok-check_parents.ensures in
-    let narrow : w ≤ 64 = omega (arith, c.count.ensures) in
-    let none = by_slice jobs n room (λ m par. (d : Refusal) → ParentFault m par d → ⊥) c.copy_parents.new.parents c.copy_parents.ensures.copied good.0 in
-    let tree = by_slice jobs n room Tree c.copy_parents.new.parents c.copy_parents.ensures.copied good.1.3 in (
-      no_fault w read jobs n (omega arith) (omega arith) room narrow c.in_default.ensures none,
-      (
-        record { some = omega arith; few = omega arith; records = room; axes = narrow; bounds = c.in_default.ensures; tree = tree },
-        c.copy_parents.ensures.copied,
-        λ k h. past_zero 4096 c.copy_parents.new.parents (n + 1) k c.copy_parents.ensures.kept (omega arith),
-      ),
-    )
+    let blank : length {A = ℕ} (take (c.args.n + 1) (replicate 4096 0)) ≡ c.args.n + 1 = front_blank (c.args.n + 1) 4096 (omega arith) in
+    let size : length c.copy_parents.new.row ≡ c.args.n + 1 = c.copy_parents.auto.row ∙ blank in
+    let row : c.copy_parents.new.row ≡ parent_row c.args.jobs.now c.args.n = rw blank at c.copy_parents.ensures in
+    settled g.K.Amount.width g.K.Amount.reading c.args.jobs.now c.args.n (omega arith) (omega arith) (omega arith) (omega (arith, c.count.ensures)) c.in_default.ensures
+    _ (front (c.args.n + 1) c.copy_parents.new.row _ size ∙ row) c.of.result c.of.ensures

@@ -1,17 +1,16 @@
-use Rattle.std.proofs.Common.{arith}
-use Rattle.lines.proofs.Earliest.{least_takes, least_stays}
+use Rattle.std.proofs.Common.{rules, tests, ◌≡◌, ℕ, ◌-◌, length, get_or, ap, sym, ◌∙◌}
+use Rattle.std.proofs.lemmas.Iterator.{YieldsList-from_range}
+use Rattle.std.proofs.lemmas.Iterator.Adapters.{option_map_id}
+use Rattle.std.proofs.lemmas.Iterator.Consumers.{YieldsList-from_filter_map, min_from_yields_List}
+use Rattle.trees.specs.Found.{jobs_in, par_in}
+use Rattle.lines.proofs.Earliest.{early, least, earliest}
 use Rattle.lines.proofs.check.first_early.Goals as goal
-use Rattle.lines.proofs.check.first_early.Goals.{then-parent-ne0+then-place-places+then-place-least, else-parent-ne0, else-parent-ne0-via-then-parent-ne0+then-place-places+else-place-least, else-parent-ne0-via-then-parent-ne0+else-place-places, else-parent-ne0-via-else-parent-ne0}
 
-pub loop-job-preserved : goal.loop-job-preserved
-loop-job-preserved c =
-    elim c.if-parent-ne0.branch [
-      | then-parent-ne0+then-place-places+then-place-least w ↦
-          least_takes _ _ _ _ c.loop-job.job c.loop-job.least c.loop-job.invariant c.if-parent-ne0.least (omega (arith, w.least-is)) (omega arith) w.if-parent-ne0.true (omega (arith, w.least-is, w.if-place-places.true)) (omega (arith, w.least-is, w.if-place-least.true))
-      | else-parent-ne0 w ↦
-          least_stays _ _ _ _ c.loop-job.job c.loop-job.least c.loop-job.invariant c.if-parent-ne0.least (omega (arith, w.least-is)) (elim w.else-parent-ne0.branch [
-            | else-parent-ne0-via-then-parent-ne0+then-place-places+else-place-least v ↦ λ _ _. v.if-place-least.false
-            | else-parent-ne0-via-then-parent-ne0+else-place-places v ↦ λ _ h. absurd (omega (arith, v.if-place-places.false))
-            | else-parent-ne0-via-else-parent-ne0 v ↦ λ h _. absurd (h v.if-parent-ne0.false)
-          ])
-    ]
+pub returns : goal.returns
+returns c =
+    let n = jobs_in c.args.tree.now in
+    let par = par_in c.args.tree.now in
+    let at : ℕ → ℕ = λ k. get_or c.args.places.now k 0 in
+    let here : length c.row-parents.result.now - 1 ≡ n = ap jobs_in c.row-parents.ensures.row in
+    let found = min_from_yields_List _ c.min.result c.min.ensures.ran (YieldsList-from_filter_map _ (early n par at) (YieldsList-from_range 1 (length c.row-parents.result.now) n (cc) here) c.filter_map.ensures.closure (λ x r q k. search (rules, tests))) in
+    earliest n par at c.row-parents.ensures.tree.2.parents c.requires.placed c.min.result (rw (sym found ∙ option_map_id c.min.result) at (least (early n par at) n 1))

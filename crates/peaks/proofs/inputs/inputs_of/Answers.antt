@@ -1,4 +1,4 @@
-use Rattle.std.proofs.Common.{◌<◌, length, get_or, sym, ap, ◌∙◌, subst, arith, rules}
+use Rattle.std.proofs.Common.{◌<◌, length, get_or, sym, ap, ◌∙◌, subst, arith}
 use Rattle.trees.specs.Trees.{NextChild}
 use Rattle.jobs.specs.Fields.{output_of}
 use Rattle.jobs.proofs.Fields.{at_read}
@@ -23,12 +23,12 @@ offset_bounds-jobs-child g c = omega (arith, c.loop-child.invariant.1 c.loop-chi
 pub bounds-jobs-child : goal.bounds-jobs-child
 bounds-jobs-child g c = omega (arith, c.loop-child.invariant.1 c.loop-child-test.true, c.requires.sound.records)
 
-pub offset_bounds-next-child : goal.offset_bounds-next-child
-offset_bounds-next-child g c =
-    let h : c.loop-child.child < length c.args.next.now = omega (arith, c.loop-child.invariant.1 c.loop-child-test.true) in search rules
+pub offset_bounds-chains-child : goal.offset_bounds-chains-child
+offset_bounds-chains-child g c =
+    omega (arith, c.loop-child.invariant.1 c.loop-child-test.true, c.requires.sound.few)
 
-pub bounds-next-child : goal.bounds-next-child
-bounds-next-child g c = omega (arith, c.loop-child.invariant.1 c.loop-child-test.true)
+pub bounds-chains-child : goal.bounds-chains-child
+bounds-chains-child g c = omega (arith, c.loop-child.invariant.1 c.loop-child-test.true, c.requires.sound.few)
 
 pub plus-total-requires : goal.plus-total-requires
 plus-total-requires g c = λ k.
@@ -55,7 +55,7 @@ loop-child-smaller g c =
     let par = par_of c.args.jobs.now n in
     let child = c.loop-child.child in
     let own = c.loop-child.invariant.1 c.loop-child-test.true in
-    let next = subst (λ v. NextChild n par v child (get_or c.args.next.now child 0)) own.1 (c.requires.chained.nexts child own.0) in
+    let next = subst (λ v. NextChild n par v child (get_or c.args.chains.now.next child 0)) own.1 (c.requires.chained.nexts child own.0) in
     chain_less n par (λ k. 0) c.args.i child _ c.loop-child-test.true own.0 own.1 next
 
 pub loop-child-preserved : goal.loop-child-preserved
@@ -68,14 +68,14 @@ loop-child-preserved g c =
     let child = c.loop-child.child in
     let own = c.loop-child.invariant.1 c.loop-child-test.true in
     let inside : child < length jobs = omega (arith, own, c.requires.sound.records) in
-    let next = subst (λ v. NextChild n par v child (get_or c.args.next.now child 0)) own.1 (c.requires.chained.nexts child own.0) in (
+    let next = subst (λ v. NextChild n par v child (get_or c.args.chains.now.next child 0)) own.1 (c.requires.chained.nexts child own.0) in (
       λ a.
           omega (
             arith,
             c.plus-total.ensures a,
             c.loop-child.invariant.0 a,
             at_read (λ j. read j.output a) jobs child c.index-jobs-child.result inside c.index-jobs-child.is,
-            before_next n par (output_of read jobs a) i child (get_or c.args.next.now child 0) c.loop-child-test.true own.0 own.1 next,
+            before_next n par (output_of read jobs a) i child (get_or c.args.chains.now.next child 0) c.loop-child-test.true own.0 own.1 next,
           ),
       next_is_child n par i child _ next,
     )

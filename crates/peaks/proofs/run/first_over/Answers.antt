@@ -1,36 +1,30 @@
 use Rattle.std.proofs.Common.{subst, inl, inr, arith}
-use Rattle.std.proofs.lemmas.Result.{err_from_is_err_and}
 use Rattle.std.proofs.lemmas.Bool.{cases_eq}
 use Rattle.peaks.specs.Stood.{Over}
-use Rattle.peaks.proofs.Passing.{left_first}
+use Rattle.peaks.proofs.Walked.{stepped, on_still, over}
 use Rattle.peaks.proofs.run.first_over.Goals as goal
-
-pub returns-in_err-chains : goal.returns-in_err-chains
-returns-in_err-chains g c =
-    let p = err_from_is_err_and c.from_residual.result c.from_residual.ensures.1 in rw (p.1, p.2) c.in_err-chains.ensures
-
-pub loop-p-init : goal.loop-p-init
-loop-p-init g c =
-    (omega arith, left_first g.K.Amount.reading c.args.jobs.now c.args.n c.args.line.now c.zero-before.result c.zero-before.ensures, λ q i h. absurd (omega arith))
 
 pub returns-then-not-fits : goal.returns-then-not-fits
 returns-then-not-fits g c =
-    let over = c.if-not-fits.ensures in (
-      c.in_ok-chains.ensures.0,
-      ((omega arith, omega arith), (over.0, omega (arith, over.1, c.step-stands.ensures.stands over.0)), c.loop-p.invariant.2),
-    )
+    let step = stepped g.K.Amount.width g.K.Amount.reading c.args.jobs.now c.args.n c.args.line.now c.loop-p.p-iterator c.next.new.self c.loop-p.invariant.0 c.loop-p.invariant.2 (c.in-Some.p, c.in-Some.stands) c.in-Some.ensures.steps in
+    let above = c.if-not-fits.ensures in
+    (c.in_ok-items.ensures.0, (step.1, (above.0, omega (arith, above.1, step.2 above.0)), λ k i h. c.loop-p.invariant.3 k i (omega (arith, h, step.0))))
 
 pub loop-p-preserved : goal.loop-p-preserved
-loop-p-preserved g c = (
-  omega arith,
-  c.step-stands.ensures.leaves,
-  λ q i h over. elim (cases_eq q c.loop-p.p) [
-    | inl e ↦
-        let at = subst (Over g.K.Amount.reading c.args.jobs.now c.args.n c.args.line.now c.args.floor.now) e over in
-        omega (arith, at.1, c.if-not-fits.ensures at.0, c.step-stands.ensures.stands at.0)
-    | inr e ↦ c.loop-p.invariant.2 q i (omega arith) over
-  ],
-)
+loop-p-preserved g c =
+    let step = stepped g.K.Amount.width g.K.Amount.reading c.args.jobs.now c.args.n c.args.line.now c.loop-p.p-iterator c.next.new.self c.loop-p.invariant.0 c.loop-p.invariant.2 (c.in-Some.p, c.in-Some.stands) c.in-Some.ensures.steps in (
+      c.in-Some.ensures.goes.keeps,
+      tt,
+      on_still g.K.Amount.width g.K.Amount.reading c.args.jobs.now c.args.n c.args.line.now c.loop-p.p-iterator c.next.new.self c.loop-p.invariant.0 c.loop-p.invariant.2 c.in-Some.ensures.steps.0,
+      λ q i h above. elim (cases_eq q c.in-Some.p) [
+        | inl e ↦
+            let at = subst (Over g.K.Amount.reading c.args.jobs.now c.args.n c.args.line.now c.args.floor.now) e above in
+            omega (arith, at.1, c.if-not-fits.ensures at.0, step.2 at.0)
+        | inr e ↦ c.loop-p.invariant.3 q i (omega (arith, h, e, step.0, step.3)) above
+      ],
+    )
 
 pub returns : goal.returns
-returns g c = (c.in_ok-chains.ensures.0, λ k i over. c.loop-p.invariant.2 k i (omega arith) over)
+returns g c =
+    let past = over g.K.Amount.width g.K.Amount.reading c.args.jobs.now c.args.n c.args.line.now c.loop-p.p-iterator c.next.new.self c.loop-p.invariant.0 c.loop-p.invariant.2 c.in-None.ensures.steps in
+    (c.in_ok-items.ensures.0, λ k i above. c.loop-p.invariant.3 k i (omega (arith, past, i)) above)

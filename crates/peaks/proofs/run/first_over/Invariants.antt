@@ -1,9 +1,13 @@
-use Rattle.std.proofs.Common.{ℕ, ◌<◌, ◌≤◌}
+use Rattle.std.proofs.Common.{ℕ, ◌<◌}
 use Rattle.trees.specs.Sums.{In}
-use Rattle.peaks.specs.Stood.{Left, Over}
+use Rattle.peaks.specs.Stood.{Over}
+use Rattle.peaks.proofs.Walked.{On}
 use Rattle.peaks.proofs.run.first_over.Given as goal
 
 abbrev pub invariant-loop-p : goal.invariant-loop-p
 invariant-loop-p g l =
-    (1 ≤ l.p) × Left g.K.Amount.reading l.jobs l.n l.line l.before l.p
-    × ((q : ℕ) → In l.n q → q < l.p → Over g.K.Amount.reading l.jobs l.n l.line l.floor q → ⊥)
+    let s = l.p-iterator in
+    (goal.iterator-loop-p g).can_next s
+    × (goal.iterator-loop-p g).is_finite s
+    × On g.K.Amount.width g.K.Amount.reading l.jobs l.n l.line s
+    × ((q : ℕ) → In l.n q → q < s.position → Over g.K.Amount.reading l.jobs l.n l.line l.floor q → ⊥)

@@ -1,9 +1,13 @@
-use Rattle.std.proofs.Common.{◌≡◌, ℕ, ◌-◌, ◌≤◌}
+use Rattle.std.proofs.Common.{◌≡◌, ℕ, ◌-◌}
 use Rattle.trees.specs.Sums.{greatest}
-use Rattle.peaks.specs.Stood.{Left, stand}
+use Rattle.peaks.specs.Stood.{stand}
+use Rattle.peaks.proofs.Walked.{On}
 use Rattle.peaks.proofs.run.peak.Given as goal
 
-abbrev pub invariant-loop-p : goal.invariant-loop-p
-invariant-loop-p g l =
-    (1 ≤ l.p) × Left g.K.Amount.reading l.jobs l.n l.line l.before l.p
-    × ((a : ℕ) → g.K.Amount.reading l.most a ≡ greatest (stand g.K.Amount.reading l.jobs l.n l.line a) (l.p - 1))
+abbrev pub invariant-loop-stands : goal.invariant-loop-stands
+invariant-loop-stands g l =
+    let s = l.stands-iterator in
+    (goal.iterator-loop-stands g).can_next s
+    × (goal.iterator-loop-stands g).is_finite s
+    × On g.K.Amount.width g.K.Amount.reading l.jobs l.n l.line s
+    × ((a : ℕ) → g.K.Amount.reading l.most a ≡ greatest (stand g.K.Amount.reading l.jobs l.n l.line a) (s.position - 1))

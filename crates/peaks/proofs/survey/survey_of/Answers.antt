@@ -1,14 +1,11 @@
-use Rattle.std.proofs.Common.{◌≡◌, ℕ, get_or}
+use Rattle.std.proofs.Common.{get_or}
 use Rattle.refusals.specs.Judged.{First}
 use Rattle.refusals.specs.declared.Refusal.{Refusal}
 use Rattle.std.proofs.lemmas.Result.{err_from_is_err_and}
 use Rattle.trees.specs.Trees.{ChainedTree}
-use Rattle.trees.specs.Sums.{In}
-use Rattle.trees.specs.Lines.{place, Line}
-use Rattle.trees.specs.Faults.{ParentFault}
+use Rattle.lines.specs.Checks.{Placed}
 use Rattle.lines.specs.Faults.{LineFault}
-use Rattle.intake.specs.Faults.TreeFault.{parents}
-use Rattle.intake.proofs.Rows.{by_slice}
+use Rattle.intake.proofs.Rows.{by_row}
 use Rattle.peaks.proofs.Firsts.{first_tree, first_line, no_fault}
 use Rattle.peaks.proofs.survey.survey_of.Goals as goal
 
@@ -27,14 +24,7 @@ returns-in_err-places g c =
     let line = c.args.line.now in
     let good = c.in_ok-parents.ensures in
     rw (p.1, p.2) (first_line g.K.Amount.width g.K.Amount.reading jobs n line good.0 e
-    (by_slice jobs n good.1.0.records (λ m par. First (LineFault m par line) e) c.in_ok-parents.parents good.1.1 c.in_err-places.ensures))
-
--- the parents were checked before
-pub returns-in_err-chains : goal.returns-in_err-chains
-returns-in_err-chains g c =
-    let good = c.in_ok-parents.ensures in
-    let e = c.in_err-chains.field-0.0 in
-    absurd (good.0 e (parents (by_slice c.args.jobs.now c.args.n good.1.0.records (λ m par. ParentFault m par e) c.in_ok-parents.parents good.1.1 c.in_err-chains.ensures.deserved)))
+    (by_row jobs n good.1.0.records (λ m par. First (LineFault m par line) e) c.in_ok-parents.parents good.1.1 c.in_err-places.ensures))
 
 pub returns : goal.returns
 returns g c =
@@ -43,16 +33,11 @@ returns g c =
     let line = c.args.line.now in
     let good = c.in_ok-parents.ensures in
     let room = good.1.0.records in
-    let cells = c.in_ok-parents.parents in
+    let row = c.in_ok-parents.parents in
+    let chains = c.chains.result in
     let places = c.in_ok-places.places in
-    let chains = c.in_ok-chains.chains in
-    let placed = c.in_ok-places.ensures in
-    let chained = by_slice jobs n room (λ m par. ChainedTree m par (λ k. get_or chains.first k 0) (λ k. get_or chains.next k 0)) cells good.1.1 c.in_ok-chains.ensures.1 in (
-      no_fault g.K.Amount.width g.K.Amount.reading jobs n line good.0 (by_slice jobs n room (λ m par. (e : Refusal) → LineFault m par line e → ⊥) cells good.1.1 placed.0),
-      record {
-        sound = good.1.0;
-        lined = by_slice jobs n room (λ m par. Line m par line) cells good.1.1 placed.1.line;
-        chained = chained.chains.chained;
-        placed = by_slice jobs n room (λ m par. (k : ℕ) → In m k → get_or places k 0 ≡ place k line) cells good.1.1 placed.1.placed;
-      },
+    let placed = by_row jobs n room (λ m par. Placed m par line places) row good.1.1 c.in_ok-places.ensures.1 in
+    let chained = by_row jobs n room (λ m par. ChainedTree m par (λ k. get_or chains.first k 0) (λ k. get_or chains.next k 0)) row good.1.1 c.chains.ensures in (
+      no_fault g.K.Amount.width g.K.Amount.reading jobs n line good.0 (by_row jobs n room (λ m par. (e : Refusal) → LineFault m par line e → ⊥) row good.1.1 c.in_ok-places.ensures.0),
+      record { sound = good.1.0; lined = placed.line; chained = chained.chains.chained; placed = placed.placed },
     )

@@ -1,5 +1,5 @@
 -- What the calls of a board that a log led to answer, and what they leave.
-use Rattle.std.proofs.Common.{◌≡◌, ℕ, ◌+◌, ◌-◌, ◌<◌, ◌≤◌, true, false, not, List, [], ◌∷◌, ◌++◌, map, length, get_or, set, is_some, Some, None, Option, sym, refl, ap, ◌∙◌, subst, arith}
+use Rattle.std.proofs.Common.{◌≡◌, ℕ, ◌+◌, ◌-◌, ◌<◌, ◌≤◌, true, false, not, List, [], ◌∷◌, ◌++◌, map, length, get_or, set, is_some, Some, None, Option, Ok, Err, Result, sym, refl, ap, ◌∙◌, subst, arith}
 use Rattle.std.proofs.lemmas.Bool.{true≢false}
 use Rattle.std.proofs.lemmas.List.{get_or_default, length-map}
 use Rattle.amounts.specs.Axes.{most}
@@ -15,7 +15,7 @@ use Rattle.logs.specs.declared.call.Call.TheVariants.{Start, Report, Ask}
 use Rattle.logs.specs.declared.call.Sight.{Sight}
 use Rattle.logs.specs.declared.call.Tally.{Tally}
 use Rattle.logs.specs.declared.call.Answer.{Answer}
-use Rattle.logs.specs.declared.call.Answer.TheVariants.{Started, Done as Ended, Told, Refused}
+use Rattle.logs.specs.declared.call.Answer.TheVariants.{Started, Done as Ended, Told}
 use Rattle.logs.specs.Stands.{Opened, is_waiting, is_done}
 use Rattle.logs.specs.Logs.{Event, event}
 use Rattle.logs.proofs.Tallies.{tally_not}
@@ -69,13 +69,13 @@ module _ {R S : Type 0} {w : ℕ} {read : S → ℕ → ℕ} {acts : Acts R S} (
   abbrev r : R
   r = b.rule
 
-  pub follows : (c : Call) (a : Answer S) (d : Board S R) (zs : List (Job S)) → Turn w read acts b.rule b.hall js c a d.rule d.hall zs → Follows w read acts o l b js c a d zs
+  pub follows : (c : Call) (a : Result (Answer S) Refusal) (d : Board S R) (zs : List (Job S)) → Turn w read acts b.rule b.hall js c a d.rule d.hall zs → Follows w read acts o l b js c a d zs
   follows c a d zs turn =
       let on : Led w read acts o (l ++ event c a ∷ []) d zs = goes o l r d.rule h d.hall js zs c a led turn in
       record { turn = turn; led = on; lawful = (along w read acts safe willing on).lawful }
 
-  pub refused : (c : Call) (e : Refusal) → Refuses w read acts b.rule b.hall js c e → Follows w read acts o l b js c (Refused e) b js
-  refused c e why = follows c (Refused e) b js (refuses c e why)
+  pub refused : (c : Call) (e : Refusal) → Refuses w read acts b.rule b.hall js c e → Follows w read acts o l b js c (Err e) b js
+  refused c e why = follows c (Err e) b js (refuses c e why)
 
   past : Along w read acts safe willing o l b.rule b.hall js
   past = along w read acts safe willing led
@@ -93,7 +93,7 @@ module _ {R S : Type 0} {w : ℕ} {read : S → ℕ → ℕ} {acts : Acts R S} (
   few_benches = facts.benched.1
 
   -- as many starts as jobs: every job was started
-  pub none_left : (n : ℕ) → In b.hall.benches n → seat_of b.hall n ≡ None → b.hall.jobs ≤ b.hall.starts → Follows w read acts o l b js (Start n) (Refused (AllStarted n)) b js
+  pub none_left : (n : ℕ) → In b.hall.benches n → seat_of b.hall n ≡ None → b.hall.jobs ≤ b.hall.starts → Follows w read acts o l b js (Start n) (Err (AllStarted n)) b js
   none_left n bench idle all =
       let t = state_in h.jobs js in
       refused (Start n) (AllStarted n) (start_none_left n bench idle (omega (arith, facts.starts_are, tally_not (λ k. not (is_waiting (t k))) h.jobs)))
@@ -117,25 +117,25 @@ module _ {R S : Type 0} {w : ℕ} {read : S → ℕ → ℕ} {acts : Acts R S} (
     -- the job was put on the bench, and the rule was told
     pub started : (idle : seat_of b.hall n ≡ None) → acts.names b.rule b.hall js ≡ Some j → ((a : ℕ) → read x a ≡ read b.hall.held a + work_of read js a j + output_of read js a j)
         → g ≡ seat b.hall n j x → ms ≡ restated js j (Running n) → (Starting w read acts b.rule g ms j → acts.started b.rule g ms j s zs) → Alike g.jobs ms zs
-        → Follows w read acts o l b js (Start n) (Started j) (record { hall = g; rule = s }) zs
+        → Follows w read acts o l b js (Start n) (Ok (Started j)) (record { hall = g; rule = s }) zs
     started idle named grows hall_is records_are told alike =
         let begins : Starts w read acts r h js n j x = record { bench = bench; idle = idle; named = named; grows = grows } in
         let done = told (record { hall = h; records = js; bench = n; now_held = x; reached = past.reached; starts = begins; hall_is = hall_is; records_are = records_are }) in
-        let P : Hall S → List (Job S) → Type 0 = λ g ms. acts.started r g ms j s zs → Alike g.jobs ms zs → Turn w read acts r h js (Start n) (Started j) s g zs in
+        let P : Hall S → List (Job S) → Type 0 = λ g ms. acts.started r g ms j s zs → Alike g.jobs ms zs → Turn w read acts r h js (Start n) (Ok (Started j)) s g zs in
         let turn : P g ms = subst (λ ms. P g ms) (sym records_are) (subst (λ g. P g (restated js j (Running n))) (sym hall_is) (λ told alike. starts s zs n j x begins told alike)) in
-        follows (Start n) (Started j) (record { hall = g; rule = s }) zs (turn done alike)
+        follows (Start n) (Ok (Started j)) (record { hall = g; rule = s }) zs (turn done alike)
 
     -- the bench was cleared, and the rule was told
     pub reported : seat_of b.hall n ≡ Some j → ((k : ℕ) → ChainedRecords w read js k → In k j → (a : ℕ) → read x a + given_back w read js j b.hall.held k a ≡ read b.hall.held a)
         → g ≡ clear b.hall n x → ms ≡ restated js j Done → (Reporting w read acts b.rule g ms j → acts.reported b.rule g ms j s zs) → Alike g.jobs ms zs
-        → Follows w read acts o l b js (Report n) (Ended j) (record { hall = g; rule = s }) zs
+        → Follows w read acts o l b js (Report n) (Ok (Ended j)) (record { hall = g; rule = s }) zs
     reported seated back hall_is records_are told alike =
         let inside = (facts.seats n j bench seated).0 in
         let ends : Ends read h js n j x = record { bench = bench; seated = seated; shrinks = back h.jobs chained inside } in
         let done = told (record { hall = h; records = js; bench = n; now_held = x; reached = past.reached; ends = ends; hall_is = hall_is; records_are = records_are }) in
-        let P : Hall S → List (Job S) → Type 0 = λ g ms. acts.reported r g ms j s zs → Alike g.jobs ms zs → Turn w read acts r h js (Report n) (Ended j) s g zs in
+        let P : Hall S → List (Job S) → Type 0 = λ g ms. acts.reported r g ms j s zs → Alike g.jobs ms zs → Turn w read acts r h js (Report n) (Ok (Ended j)) s g zs in
         let turn : P g ms = subst (λ ms. P g ms) (sym records_are) (subst (λ g. P g (restated js j Done)) (sym hall_is) (λ told alike. reports s zs n j x ends told alike)) in
-        follows (Report n) (Ended j) (record { hall = g; rule = s }) zs (turn done alike)
+        follows (Report n) (Ok (Ended j)) (record { hall = g; rule = s }) zs (turn done alike)
 
   -- the job on a bench can end
   pub seated_ends : (n j : ℕ) → In b.hall.benches n → seat_of b.hall n ≡ Some j → Endable w read js j b.hall.held n b.hall.jobs
@@ -153,11 +153,11 @@ module _ {R S : Type 0} {w : ℕ} {read : S → ℕ → ℕ} {acts : Acts R S} (
 
   -- what a question tells is what the record has, and the tally
   pub told : (j : ℕ) (x : Job S) (t : Tally) → In b.hall.jobs j → x ≡ get_or js j x → t ≡ tally_of b.hall
-      → Follows w read acts o l b js (Ask j) (Told (record { state = x.state; held = b.hall.held; starts = t.starts; reports = t.reports; left = t.left })) b js
+      → Follows w read acts o l b js (Ask j) (Ok (Told (record { state = x.state; held = b.hall.held; tally = t }))) b js
   told j x t i is counts =
       let state : state_in h.jobs js j ≡ x.state = state_in_job h.jobs js j i ∙ state_read js j x (omega (arith, i, facts.sound.records)) is Waiting in
-      let sight : State → Tally → Sight S = λ s n. record { state = s; held = h.held; starts = n.starts; reports = n.reports; left = n.left } in
-      follows (Ask j) (Told (sight x.state t)) b js (subst (λ s. Turn w read acts r h js (Ask j) (Told (sight s t)) r h js) state (subst (λ n. Turn w read acts r h js (Ask j) (Told (sight (state_in h.jobs js j) n)) r h js) (sym counts) (tells j i)))
+      let sight : State → Tally → Sight S = λ s n. record { state = s; held = h.held; tally = n } in
+      follows (Ask j) (Ok (Told (sight x.state t))) b js (subst (λ s. Turn w read acts r h js (Ask j) (Ok (Told (sight s t))) r h js) state (subst (λ n. Turn w read acts r h js (Ask j) (Ok (Told (sight (state_in h.jobs js j) n))) r h js) (sym counts) (tells j i)))
 
   pub job_there : (j : ℕ) → In b.hall.jobs j → j < length js
   job_there j i = omega (arith, i, facts.sound.records)

@@ -1,5 +1,5 @@
 -- The boards that a log leads to are reached, stand as the log says, and their logs are lawful.
-use Rattle.std.proofs.Common.{◌≡◌, ℕ, ◌+◌, ◌-◌, ◌<◌, ◌≤◌, Bool, true, false, not, ◌⊎◌, List, [], ◌∷◌, ◌++◌, Some, None, Option, sym, refl, ap, ◌∙◌, subst, inl, inr, arith}
+use Rattle.std.proofs.Common.{◌≡◌, ℕ, ◌+◌, ◌-◌, ◌<◌, ◌≤◌, Bool, true, false, not, ◌⊎◌, List, [], ◌∷◌, ◌++◌, Some, None, Option, Ok, Err, Result, sym, refl, ap, ◌∙◌, subst, inl, inr, arith}
 use Rattle.std.proofs.lemmas.Bool.{cases_Bool, true≢false, not-true, not-false}
 use Rattle.refusals.specs.declared.Refusal.{Refusal}
 use Rattle.refusals.specs.declared.Refusal.TheVariants.{BenchUnknown, JobUnknown, BenchBusy, BenchIdle, AllStarted, NoneNamed}
@@ -10,7 +10,7 @@ use Rattle.jobs.specs.declared.State.TheVariants.{Waiting, Running}
 use Rattle.logs.specs.declared.call.Call.{Call}
 use Rattle.logs.specs.declared.call.Call.TheVariants.{Start, Report, Ask}
 use Rattle.logs.specs.declared.call.Answer.{Answer}
-use Rattle.logs.specs.declared.call.Answer.TheVariants.{Started, Done as Ended, Told, Refused}
+use Rattle.logs.specs.declared.call.Answer.TheVariants.{Started, Done as Ended, Told}
 use Rattle.logs.specs.Stands.{Opened, is_waiting, is_done, tally, held, busy, left, Ready}
 use Rattle.logs.specs.Logs.{Event, event, step, after, is_start, is_report, times, Tallied, StartRefused, ReportRefused, AskRefused, Right, Lawful}
 use Rattle.logs.specs.Logs.StartRefused.{outside, occupied, all_started, none_named}
@@ -82,7 +82,7 @@ module _ {R S : Type 0} (w : ℕ) (read : S → ℕ → ℕ) (acts : Acts R S) (
         go (inl e) = any_some (busy tree t) h.benches e
         go (inr e) = absurd (none_some none (willing r h js k along.reached (λ b bench. idle e b bench (seat_cases (seat_of h b))) i waits).1)
 
-    refused_right : (c : Call) (e : Refusal) → Refuses w read acts r h js c e → Right read o l c (Refused e)
+    refused_right : (c : Call) (e : Refusal) → Refuses w read acts r h js c e → Right read o l c (Err e)
     refused_right _ _ (start_outside b out) = carry (λ p u. StartRefused p u b BenchUnknown) (outside out)
     refused_right _ _ (start_busy b j bench q) = carry (λ p u. StartRefused p u b (BenchBusy b)) (occupied bench (seat_busy w read h js facts b j bench q))
     refused_right _ _ (start_none_left b bench idle all) =
@@ -96,34 +96,32 @@ module _ {R S : Type 0} (w : ℕ) (read : S → ℕ → ℕ) (acts : Acts R S) (
     refused_right _ _ (report_idle b bench idle) = carry (λ p u. ReportRefused p u b (BenchIdle b)) (nothing bench (seat_idle w read h js facts b idle))
     refused_right _ _ (ask_outside j out) = carry (λ p u. AskRefused p j JobUnknown) (no_job out)
 
-    start_right : (b j : ℕ) (x : S) → Starts w read acts r h js b j x → Right read o l (Start b) (Started j)
+    start_right : (b j : ℕ) (x : S) → Starts w read acts r h js b j x → Right read o l (Start b) (Ok (Started j))
     start_right b j x s = carry (λ p u. In p.benches b × (busy p u b ≡ false) × Ready p u j) (s.bench, seat_idle w read h js facts b s.idle, safe r h js j along.reached s.named)
 
-    report_right : (b j : ℕ) (x : S) → Ends read h js b j x → Right read o l (Report b) (Ended j)
+    report_right : (b j : ℕ) (x : S) → Ends read h js b j x → Right read o l (Report b) (Ok (Ended j))
     report_right b j x e = let s = facts.seats b j e.bench e.seated in carry (λ p u. In p.benches b × In p.jobs j × (u j ≡ Running b)) (e.bench, s.0, s.1)
 
     left_right : h.jobs - h.reports ≡ left o (after l)
     left_right = carry (λ p u. h.jobs - h.reports ≡ left p u) (omega (arith, facts.reports_are, tally_not (λ k. is_done (t k)) h.jobs))
 
-    tell_right : (j : ℕ) → In h.jobs j → Right read o l (Ask j) (Told (sight_of h js j))
+    pub tallied : (n : ℕ) → n ≡ h.jobs - h.reports → Tallied o l (record { starts = h.starts; reports = h.reports; left = n })
+    tallied n e = record { starts_are = along.starts_are; reports_are = along.reports_are; left_is = e ∙ left_right }
+
+    tell_right : (j : ℕ) → In h.jobs j → Right read o l (Ask j) (Ok (Told (sight_of h js j)))
     tell_right j i =
         record {
           job = carry (λ p u. In p.jobs j) i;
           state = ap (λ u. u j) along.states;
           held_is = carry (λ p u. (a : ℕ) → read h.held a ≡ held p u a) facts.held_is;
-          starts_are = along.starts_are;
-          reports_are = along.reports_are;
-          left_is = left_right;
+          tallied = tallied (h.jobs - h.reports) refl;
         }
-
-    pub tallied : (n : ℕ) → n ≡ h.jobs - h.reports → Tallied o l (record { starts = h.starts; reports = h.reports; left = n })
-    tallied n e = record { starts_are = along.starts_are; reports_are = along.reports_are; left_is = e ∙ left_right }
 
     parents : (k : ℕ) → In o.jobs k → o.parent k ≤ o.jobs
     parents = carry (λ p u. (k : ℕ) → In p.jobs k → p.parent k ≤ p.jobs) facts.sound.tree.parents
 
     -- a call that was answered rightly
-    on : (c : Call) (a : Answer S) (s : R) (g : Hall S) (zs : List (Job S)) → Right read o l c a → Reached w read acts s g zs → opened_of read g zs ≡ opened_of read h js → state_in g.jobs zs ≡ step (state_in h.jobs js) c a → g.starts ≡ h.starts + only (is_start c a) 1 → g.reports ≡ h.reports + only (is_report c a) 1 → Along o (l ++ event c a ∷ []) s g zs
+    on : (c : Call) (a : Result (Answer S) Refusal) (s : R) (g : Hall S) (zs : List (Job S)) → Right read o l c a → Reached w read acts s g zs → opened_of read g zs ≡ opened_of read h js → state_in g.jobs zs ≡ step (state_in h.jobs js) c a → g.starts ≡ h.starts + only (is_start c a) 1 → g.reports ≡ h.reports + only (is_report c a) 1 → Along o (l ++ event c a ∷ []) s g zs
     on c a s g zs right reached same stands more_starts more_reports =
         record {
           reached = reached;
@@ -135,24 +133,24 @@ module _ {R S : Type 0} (w : ℕ) (read : S → ℕ → ℕ) (acts : Acts R S) (
           lawful = lawful_more read o parents l c a along.kept along.lawful right;
         }
 
-    still : (c : Call) (a : Answer S) → Right read o l c a → step (state_in h.jobs js) c a ≡ state_in h.jobs js → is_start c a ≡ false → is_report c a ≡ false → Along o (l ++ event c a ∷ []) r h js
+    still : (c : Call) (a : Result (Answer S) Refusal) → Right read o l c a → step (state_in h.jobs js) c a ≡ state_in h.jobs js → is_start c a ≡ false → is_report c a ≡ false → Along o (l ++ event c a ∷ []) r h js
     still c a right stands no_start no_report =
         on c a r h js right along.reached refl (sym stands) (rw no_start (omega arith)) (rw no_report (omega arith))
 
-    refused_on : (c : Call) (e : Refusal) → Right read o l c (Refused e) → Along o (l ++ event c (Refused e) ∷ []) r h js
-    refused_on (Start b) e right = still (Start b) (Refused e) right refl refl refl
-    refused_on (Report b) e right = still (Report b) (Refused e) right refl refl refl
-    refused_on (Ask j) e right = still (Ask j) (Refused e) right refl refl refl
+    refused_on : (c : Call) (e : Refusal) → Right read o l c (Err e) → Along o (l ++ event c (Err e) ∷ []) r h js
+    refused_on (Start b) e right = still (Start b) (Err e) right refl refl refl
+    refused_on (Report b) e right = still (Report b) (Err e) right refl refl refl
+    refused_on (Ask j) e right = still (Ask j) (Err e) right refl refl refl
 
-    pub turned : {c : Call} {a : Answer S} {s : R} {g : Hall S} {zs : List (Job S)} → Turn w read acts r h js c a s g zs → Along o (l ++ event c a ∷ []) s g zs
+    pub turned : {c : Call} {a : Result (Answer S) Refusal} {s : R} {g : Hall S} {zs : List (Job S)} → Turn w read acts r h js c a s g zs → Along o (l ++ event c a ∷ []) s g zs
     turned (starts s zs b j x begins told alike) =
         let ready = safe r h js j along.reached begins.named in
-        on (Start b) (Started j) s (seat h b j x) zs (start_right b j x begins) (started r s h js zs b j x along.reached begins told alike)
+        on (Start b) (Ok (Started j)) s (seat h b j x) zs (start_right b j x begins) (started r s h js zs b j x along.reached begins told alike)
         (start_opened w read h js zs b j x facts begins.bench begins.idle ready begins.grows alike) (start_states w read h js zs b j x facts begins.bench begins.idle ready begins.grows alike) refl (omega arith)
     turned (reports s zs b j x ends told alike) =
-        on (Report b) (Ended j) s (clear h b x) zs (report_right b j x ends) (reported r s h js zs b j x along.reached ends told alike)
+        on (Report b) (Ok (Ended j)) s (clear h b x) zs (report_right b j x ends) (reported r s h js zs b j x along.reached ends told alike)
         (report_opened w read h js zs b j x facts ends alike) (report_states w read h js zs b j x facts ends alike) (omega arith) refl
-    turned (tells j i) = still (Ask j) (Told (sight_of h js j)) (tell_right j i) refl refl refl
+    turned (tells j i) = still (Ask j) (Ok (Told (sight_of h js j))) (tell_right j i) refl refl refl
     turned (refuses c e why) = refused_on c e (refused_right c e why)
 
   pub along : {o : Opened} {l : List (Event S)} {r : R} {h : Hall S} {js : List (Job S)} → Course w read acts o l r h js → Along o l r h js

@@ -2,10 +2,11 @@ ghost use Rattle.std.specs.Prelude.{◌≡◌, ℕ, List, IfErr, Err, OnErr};
 ghost use Rattle.refusals.specs.declared.Refusal.TheVariants.{BenchUnknown, JobUnknown};
 ghost use Rattle.trees.specs.Sums.{In};
 ghost use Rattle.logs.specs.declared.call.Call.TheVariants.{Start, Report, Ask};
+ghost use Rattle.logs.specs.declared.call.Answer.TheVariants.{Started, Done as Ended, Told};
 ghost use Rattle.jobs.specs.declared.Job.{Job};
 ghost use Rattle.logs.specs.Stands.{Opened};
 ghost use Rattle.logs.specs.Logs.{Event, Tallied};
-ghost use Rattle.boards.specs.Course.{Led, Follows, Still, tally_of, start_answer, report_answer, ask_answer};
+ghost use Rattle.boards.specs.Course.{Led, Continues, Still, tally_of, answered};
 ghost use Rattle.boards.specs.Listed.{StartListed, ReportListed, AskListed};
 
 use super::board::Board;
@@ -22,11 +23,9 @@ impl<K: Amount, R: Rule<K>> Board<K, R> {
         ensures outside { (In self.old.hall.benches bench → ⊥) → result ≡ Err BenchUnknown }
         ensures listed { IfErr result (StartListed bench) }
         ensures still { OnErr result ((self.new ≡ self.old) × (jobs.new ≡ jobs.old)) }
-        ensures follows { (o : Opened) (l : List (Event K)) → Led K.Amount.width K.Amount.reading R.Rule.acts o l self.old jobs.old → Follows K.Amount.width K.Amount.reading R.Rule.acts o l self.old jobs.old (Start bench) (start_answer result) self.new jobs.new }
+        ensures follows { Continues K.Amount.width K.Amount.reading R.Rule.acts self.old jobs.old (Start bench) (answered Started result) self.new jobs.new }
     {
-        let Some(place) = place_of(bench, self.hall.benches) else {
-            return Err(Refusal::BenchUnknown);
-        };
+        let place = place_of(bench, self.hall.benches)?;
         let seated = self.hall.table[place];
         if seated.is_some() {
             return Err(Refusal::BenchBusy { bench });
@@ -54,11 +53,9 @@ impl<K: Amount, R: Rule<K>> Board<K, R> {
         ensures outside { (In self.old.hall.benches bench → ⊥) → result ≡ Err BenchUnknown }
         ensures listed { IfErr result (ReportListed bench) }
         ensures still { OnErr result ((self.new ≡ self.old) × (jobs.new ≡ jobs.old)) }
-        ensures follows { (o : Opened) (l : List (Event K)) → Led K.Amount.width K.Amount.reading R.Rule.acts o l self.old jobs.old → Follows K.Amount.width K.Amount.reading R.Rule.acts o l self.old jobs.old (Report bench) (report_answer result) self.new jobs.new }
+        ensures follows { Continues K.Amount.width K.Amount.reading R.Rule.acts self.old jobs.old (Report bench) (answered Ended result) self.new jobs.new }
     {
-        let Some(place) = place_of(bench, self.hall.benches) else {
-            return Err(Refusal::BenchUnknown);
-        };
+        let place = place_of(bench, self.hall.benches)?;
         let seated = self.hall.table[place];
         let Some(number) = seated else {
             return Err(Refusal::BenchIdle { bench });
@@ -81,22 +78,18 @@ impl<K: Amount, R: Rule<K>> Board<K, R> {
     pub fn question(&self, job: usize, jobs: &[Job<K>]) -> Result<Sight<K>, Refusal>
         ensures outside { (In self.now.hall.jobs job → ⊥) → result ≡ Err JobUnknown }
         ensures listed { IfErr result AskListed }
-        ensures follows { (o : Opened) (l : List (Event K)) → Led K.Amount.width K.Amount.reading R.Rule.acts o l self.now jobs.now → Follows K.Amount.width K.Amount.reading R.Rule.acts o l self.now jobs.now (Ask job) (ask_answer result) self.now jobs.now }
+        ensures follows { Continues K.Amount.width K.Amount.reading R.Rule.acts self.now jobs.now (Ask job) (answered Told result) self.now jobs.now }
     {
         if job == 0 || job > self.hall.jobs {
             return Err(Refusal::JobUnknown);
         }
-        if job >= jobs.len() {
+        let Some(record) = jobs.get(job) else {
             return Err(Refusal::Altered { bench: 0 });
-        }
-        let record = &jobs[job];
-        let counts = self.tally();
+        };
         Ok(Sight {
             state: record.state,
             held: self.hall.held,
-            starts: counts.starts,
-            reports: counts.reports,
-            left: counts.left,
+            tally: self.tally(),
         })
     }
 
@@ -113,23 +106,14 @@ impl<K: Amount, R: Rule<K>> Board<K, R> {
     }
 
     /// Carries out any of the three.
-    pub fn call(&mut self, call: Call, jobs: &mut [Job<K>]) -> Answer<K>
+    pub fn call(&mut self, call: Call, jobs: &mut [Job<K>]) -> Result<Answer<K>, Refusal>
         ensures still { Still result ((self.new ≡ self.old) × (jobs.new ≡ jobs.old)) }
-        ensures follows { (o : Opened) (l : List (Event K)) → Led K.Amount.width K.Amount.reading R.Rule.acts o l self.old jobs.old → Follows K.Amount.width K.Amount.reading R.Rule.acts o l self.old jobs.old call result self.new jobs.new }
+        ensures follows { Continues K.Amount.width K.Amount.reading R.Rule.acts self.old jobs.old call result self.new jobs.new }
     {
-        match call {
-            Call::Start(bench) => match self.start(bench, jobs) {
-                Ok(job) => Answer::Started(job),
-                Err(refusal) => Answer::Refused(refusal),
-            },
-            Call::Report(bench) => match self.report(bench, jobs) {
-                Ok(job) => Answer::Done(job),
-                Err(refusal) => Answer::Refused(refusal),
-            },
-            Call::Ask(job) => match self.question(job, jobs) {
-                Ok(sight) => Answer::Told(sight),
-                Err(refusal) => Answer::Refused(refusal),
-            },
-        }
+        Ok(match call {
+            Call::Start(bench) => Answer::Started(self.start(bench, jobs)?),
+            Call::Report(bench) => Answer::Done(self.report(bench, jobs)?),
+            Call::Ask(job) => Answer::Told(self.question(job, jobs)?),
+        })
     }
 }

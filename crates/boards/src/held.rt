@@ -1,22 +1,23 @@
 //! What a start and a report make of what is held, and of a job's record.
-ghost use Rattle.std.specs.Prelude.{◌≡◌, ℕ, ◌-◌, ◌<◌, ◌≤◌, length, MatchOption};
+ghost use Rattle.std.specs.Prelude.{◌≡◌, ℕ, ◌-◌, ◌<◌, ◌≤◌, length, MatchResult};
+ghost use Rattle.refusals.specs.declared.Refusal.TheVariants.{BenchUnknown};
 ghost use Rattle.trees.specs.Sums.{In};
 ghost use Rattle.rules.specs.Records.{restated};
 ghost use Rattle.boards.specs.Held.{With, Without};
 
 use amounts::Amount;
 use jobs::{Job, State};
-use refusals::MOST_JOBS;
+use refusals::{MOST_JOBS, Refusal};
 use rules::{BENCHES, freed};
 
-/// The place of a bench in the table; none where it is outside the board.
-pub(crate) fn place_of(bench: usize, benches: usize) -> Option<usize>
-    ensures { MatchOption result (In benches bench → bench ≤ 64 → ⊥) (λ p. (p ≡ bench - 1) × In benches bench × (bench ≤ 64)) }
+/// The place of a bench in the table, where it is one of the board's.
+pub(crate) fn place_of(bench: usize, benches: usize) -> Result<usize, Refusal>
+    ensures { MatchResult result (λ p. (p ≡ bench - 1) × In benches bench × (bench ≤ 64)) (λ e. (e ≡ BenchUnknown) × (In benches bench → bench ≤ 64 → ⊥)) }
 {
     if bench == 0 || bench > benches || bench > BENCHES {
-        None
+        Err(Refusal::BenchUnknown)
     } else {
-        Some(bench - 1)
+        Ok(bench - 1)
     }
 }
 
@@ -24,10 +25,10 @@ pub(crate) fn place_of(bench: usize, benches: usize) -> Option<usize>
 pub(crate) fn held_with<K: Amount>(held: &K, jobs: &[Job<K>], job: usize) -> Option<K>
     ensures { With K.Amount.width K.Amount.reading jobs.now job held.now result }
 {
-    if job == 0 || job > MOST_JOBS || job >= jobs.len() {
+    if job == 0 || job > MOST_JOBS {
         return None;
     }
-    let record = &jobs[job];
+    let record = jobs.get(job)?;
     let State::Waiting = record.state else {
         return None;
     };
@@ -43,10 +44,7 @@ pub(crate) fn held_without<K: Amount>(
 ) -> Option<K>
     ensures { Without K.Amount.width K.Amount.reading jobs.now job held.now bench result }
 {
-    if job >= jobs.len() {
-        return None;
-    }
-    let record = &jobs[job];
+    let record = jobs.get(job)?;
     let State::Running(at) = record.state else {
         return None;
     };
@@ -62,7 +60,6 @@ pub(crate) fn restate<K: Amount>(jobs: &mut [Job<K>], job: usize, state: State)
     requires { job < length jobs.old }
     ensures { jobs.new ≡ restated jobs.old job state }
 {
-    let mut record = jobs[job];
-    record.state = state;
-    jobs[job] = record;
+    let record = jobs[job];
+    jobs[job] = Job { state, ..record };
 }

@@ -8,3 +8,4 @@ mod lay;
 mod opening;
 
 pub use board::Board;
+pub use opening::Plan;

@@ -1,17 +1,25 @@
-ghost use Rattle.std.specs.Prelude.{◌≡◌, ℕ, [], OnErr};
+ghost use Rattle.std.specs.Prelude.{◌≡◌, [], OnErr};
 ghost use Rattle.refusals.specs.Judged.{Judged};
 ghost use Rattle.peaks.specs.Surveyed.{Surveyed};
-ghost use Rattle.rules.specs.Records.{opened_with};
 ghost use Rattle.boards.specs.Course.{Led};
-ghost use Rattle.boards.specs.Faults.{OpenFault};
+ghost use Rattle.boards.specs.Faults.{OpenFault, planned};
 
 use super::board::Board;
 use super::lay::lay;
-use amounts::{Amount, exceeds};
+use amounts::Amount;
 use jobs::Job;
-use peaks::{Survey, first_over, survey_of};
-use refusals::{FLOOR_BOUND, Refusal};
-use rules::{BENCHES, Hall, Rule};
+use peaks::{Survey, check_hall, first_over, survey_of};
+use refusals::Refusal;
+use rules::{Hall, Rule};
+
+/// What is to be opened: the tree of the jobs 1 to `jobs` with its line, and a hall.
+#[derive(Clone, Copy)]
+pub struct Plan<'a, K> {
+    pub jobs: usize,
+    pub line: &'a [u32],
+    pub benches: usize,
+    pub floor: K,
+}
 
 impl<K: Amount, R: Rule<K>> Board<K, R> {
     /// A board that is not open: it has no bench and no job, so it refuses every call.
@@ -19,74 +27,31 @@ impl<K: Amount, R: Rule<K>> Board<K, R> {
         ensures { (result.rule ≡ rule) × ((result.hall.benches ≡ 0) × (result.hall.jobs ≡ 0)) }
     {
         Board {
-            hall: Hall {
-                jobs: 0,
-                benches: 0,
-                floor: K::zero(),
-                held: K::zero(),
-                table: [None; BENCHES],
-                starts: 0,
-                reports: 0,
-            },
+            hall: Hall::new(0, 0, K::zero()),
             rule,
         }
     }
 
-    /// Opens the tree of the jobs 1 to `n` with its line, anew if a tree is open: every job waits.
-    pub fn open(
-        &mut self,
-        jobs: &mut [Job<K>],
-        n: usize,
-        line: &[u32],
-        benches: usize,
-        floor: &K,
-    ) -> Result<(), Refusal>
-        ensures judged { Judged (OpenFault K.Amount.width K.Amount.reading R.Rule.acts self.old.rule jobs.old n line.now benches floor.now) (λ _. Led K.Amount.width K.Amount.reading R.Rule.acts (opened_with K.Amount.reading jobs.old n benches floor.now) [] self.new jobs.new) result }
+    /// Opens what is planned, anew if a tree is open: every job waits.
+    pub fn open(&mut self, jobs: &mut [Job<K>], plan: &Plan<K>) -> Result<(), Refusal>
+        ensures judged { Judged (OpenFault K.Amount.width K.Amount.reading R.Rule.acts self.old.rule jobs.old plan.now) (λ _. Led K.Amount.width K.Amount.reading R.Rule.acts (planned K.Amount.reading jobs.old plan.now) [] self.new jobs.new) result }
         ensures still { OnErr result ((self.new ≡ self.old) × (jobs.new ≡ jobs.old)) }
     {
-        let survey = self.admit(jobs, n, line, benches, floor)?;
-        lay(
-            jobs,
-            n,
-            &survey.chains.first,
-            &survey.chains.next,
-            &survey.places,
-        );
-        self.hall = Hall {
-            jobs: n,
-            benches,
-            floor: *floor,
-            held: K::zero(),
-            table: [None; BENCHES],
-            starts: 0,
-            reports: 0,
-        };
-        self.rule.opening(&self.hall, jobs, line);
+        let survey = self.admit(jobs, plan)?;
+        lay(jobs, plan.jobs, &survey);
+        self.hall = Hall::new(plan.jobs, plan.benches, plan.floor);
+        self.rule.opening(&self.hall, jobs, plan.line);
         Ok(())
     }
 
     /// Looks for what refuses an opening, in its order.
-    fn admit(
-        &self,
-        jobs: &[Job<K>],
-        n: usize,
-        line: &[u32],
-        benches: usize,
-        floor: &K,
-    ) -> Result<Survey, Refusal>
-        ensures { Judged (OpenFault K.Amount.width K.Amount.reading R.Rule.acts self.now.rule jobs.now n line.now benches floor.now) (Surveyed K.Amount.width K.Amount.reading jobs.now n line.now) result }
+    fn admit(&self, jobs: &[Job<K>], plan: &Plan<K>) -> Result<Survey, Refusal>
+        ensures { Judged (OpenFault K.Amount.width K.Amount.reading R.Rule.acts self.now.rule jobs.now plan.now) (Surveyed K.Amount.width K.Amount.reading jobs.now plan.now.jobs plan.now.line.now) result }
     {
-        let survey = survey_of(jobs, n, line)?;
-        if benches == 0 || benches > BENCHES {
-            return Err(Refusal::Benches);
-        }
-        if exceeds(floor, FLOOR_BOUND) {
-            return Err(Refusal::Floor);
-        }
-        if let Some(refusal) = self.rule.refuses(jobs, n, line) {
-            return Err(refusal);
-        }
-        if let Some(position) = first_over(jobs, n, line, floor)? {
+        let survey = survey_of(jobs, plan.jobs, plan.line)?;
+        check_hall(plan.benches, &plan.floor)?;
+        self.rule.check(jobs, plan.jobs, plan.line)?;
+        if let Some(position) = first_over(jobs, plan.jobs, plan.line, &plan.floor)? {
             return Err(Refusal::FloorExceeded { position });
         }
         Ok(survey)

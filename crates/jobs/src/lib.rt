@@ -5,6 +5,8 @@ ghost use Rattle.std.specs.Prelude.{◌≡◌, ℕ};
 ghost use Rattle.amounts.specs.Axes.{Same};
 ghost use Rattle.jobs.specs.declared.State.TheVariants.{Waiting};
 
+mod standing;
+
 use amounts::Amount;
 
 /// Where a job stands: it waits, runs on one bench, or is done.

@@ -1,5 +1,5 @@
 -- Right answers keep a log lawful.
-use Rattle.std.proofs.Common.{◌≡◌, ℕ, zero, suc, ◌+◌, ◌≤◌, Bool, true, false, not, eqb, ◌⊎◌, List, [], ◌∷◌, ◌++◌, length, sym, refl, ap, ◌∙◌, subst, inl, inr, append-nil, arith}
+use Rattle.std.proofs.Common.{◌≡◌, ℕ, zero, suc, ◌+◌, ◌≤◌, Bool, true, false, not, eqb, ◌⊎◌, List, [], ◌∷◌, ◌++◌, length, Ok, Err, Result, sym, refl, ap, ◌∙◌, subst, inl, inr, append-nil, arith}
 use Rattle.std.proofs.lemmas.Bool.{cases_eq, eq-eqb, ne_eqb, true≢false}
 use Rattle.refusals.specs.declared.Refusal.{Refusal}
 use Rattle.trees.specs.Sums.{In, only}
@@ -10,7 +10,7 @@ use Rattle.jobs.specs.declared.State.TheVariants.{Waiting, Running, Done}
 use Rattle.logs.specs.declared.call.Call.{Call}
 use Rattle.logs.specs.declared.call.Call.TheVariants.{Start, Report, Ask}
 use Rattle.logs.specs.declared.call.Answer.{Answer}
-use Rattle.logs.specs.declared.call.Answer.TheVariants.{Started, Done as Ended, Told, Refused}
+use Rattle.logs.specs.declared.call.Answer.TheVariants.{Started, Done as Ended, Told}
 use Rattle.logs.specs.Stands.{Opened, is_waiting, is_done, runs_on, busy, busy_benches, Ready}
 use Rattle.logs.specs.Logs.{Event, event, begun, step, since, after, is_start, starts_job, is_report, times, starts, reports, StartRefused, Right, NextRight, StartGranted, AtPoint, Lawful}
 use Rattle.logs.specs.Logs.StartRefused.{outside, occupied, all_started, none_named}
@@ -39,7 +39,7 @@ module _ {S : Type 0} where
   pub after_more : (l : List (Event S)) (e : Event S) → after (l ++ e ∷ []) ≡ step (after l) e.call e.answer
   after_more = since_more (λ k. Waiting)
 
-  pub times_more : (p : Call → Answer S → Bool) (l : List (Event S)) (e : Event S) → times p (l ++ e ∷ []) ≡ times p l + only (p e.call e.answer) 1
+  pub times_more : (p : Call → Result (Answer S) Refusal → Bool) (l : List (Event S)) (e : Event S) → times p (l ++ e ∷ []) ≡ times p l + only (p e.call e.answer) 1
   times_more p [] e = omega arith
   times_more p (x ∷ l) e = omega (arith, times_more p l e)
 
@@ -65,13 +65,13 @@ module _ {S : Type 0} (read : S → ℕ → ℕ) (o : Opened) where
     t = after l
 
     -- the same of one step, stated of how the jobs stand after it
-    pub record Stepped (c : Call) (a : Answer S) : Type 0 where
+    pub record Stepped (c : Call) (a : Result (Answer S) Refusal) : Type 0 where
       pub sound : Sound o (step (after l) c a)
       pub starts_are : starts l + only (is_start c a) 1 ≡ started_jobs o (step (after l) c a)
       pub reports_are : reports l + only (is_report c a) 1 ≡ done_jobs o (step (after l) c a)
       pub once_are : (j : ℕ) → times (starts_job j) l + only (starts_job j c a) 1 ≡ only (not (is_waiting (step (after l) c a j))) 1
 
-    same : (c : Call) (a : Answer S) → step (after l) c a ≡ after l → is_start c a ≡ false → is_report c a ≡ false → ((j : ℕ) → starts_job j c a ≡ false) → Stepped c a
+    same : (c : Call) (a : Result (Answer S) Refusal) → step (after l) c a ≡ after l → is_start c a ≡ false → is_report c a ≡ false → ((j : ℕ) → starts_job j c a ≡ false) → Stepped c a
     same c a e f g h =
         record {
           sound = subst (Sound o) (sym e) kept.sound;
@@ -80,7 +80,7 @@ module _ {S : Type 0} (read : S → ℕ → ℕ) (o : Opened) where
           once_are = λ j. rw (e, h j) (let z = kept.once_are j in omega arith);
         }
 
-    begins : (b j : ℕ) → In o.benches b → busy o (after l) b ≡ false → Ready o (after l) j → Stepped (Start b) (Started j)
+    begins : (b j : ℕ) → In o.benches b → busy o (after l) b ≡ false → Ready o (after l) j → Stepped (Start b) (Ok (Started j))
     begins b j bench idle ready =
         record {
           sound = begun_sound o t kept.sound b j bench idle ready;
@@ -97,7 +97,7 @@ module _ {S : Type 0} (read : S → ℕ → ℕ) (o : Opened) where
             let z = kept.once_are i in
             rw (begun_other o t kept.sound b j bench idle ready i e, ne_eqb j i (λ q. e (sym q))) (omega arith)
 
-    ends : (b i : ℕ) → In o.jobs i → after l i ≡ Running b → (j : ℕ) → Stepped (Report b) (Ended j)
+    ends : (b i : ℕ) → In o.jobs i → after l i ≡ Running b → (j : ℕ) → Stepped (Report b) (Ok (Ended j))
     ends b i inside run j =
         record {
           sound = ended_sound o t kept.sound b i inside run;
@@ -106,18 +106,18 @@ module _ {S : Type 0} (read : S → ℕ → ℕ) (o : Opened) where
           once_are = λ k. rw (ended_started_at o t kept.sound b i inside run k) (let z = kept.once_are k in omega arith);
         }
 
-    pub stepped : (c : Call) (a : Answer S) → Right read o l c a → Stepped c a
-    stepped (Start b) (Started j) r = begins b j r.0 r.1 r.2
-    stepped (Start b) (Ended j) r = absurd r
-    stepped (Start b) (Told s) r = absurd r
-    stepped (Start b) (Refused e) r = same (Start b) (Refused e) refl refl refl (λ j. refl)
-    stepped (Report b) (Started j) r = absurd r
-    stepped (Report b) (Ended j) r = ends b j r.1 r.2 j
-    stepped (Report b) (Told s) r = absurd r
-    stepped (Report b) (Refused e) r = same (Report b) (Refused e) refl refl refl (λ j. refl)
+    pub stepped : (c : Call) (a : Result (Answer S) Refusal) → Right read o l c a → Stepped c a
+    stepped (Start b) (Ok (Started j)) r = begins b j r.0 r.1 r.2
+    stepped (Start b) (Ok (Ended j)) r = absurd r
+    stepped (Start b) (Ok (Told s)) r = absurd r
+    stepped (Start b) (Err e) r = same (Start b) (Err e) refl refl refl (λ j. refl)
+    stepped (Report b) (Ok (Started j)) r = absurd r
+    stepped (Report b) (Ok (Ended j)) r = ends b j r.1 r.2 j
+    stepped (Report b) (Ok (Told s)) r = absurd r
+    stepped (Report b) (Err e) r = same (Report b) (Err e) refl refl refl (λ j. refl)
     stepped (Ask j) a r = same (Ask j) a refl refl refl (λ j. refl)
 
-    pub kept_more : (c : Call) (a : Answer S) → Right read o l c a → Kept (l ++ event c a ∷ [])
+    pub kept_more : (c : Call) (a : Result (Answer S) Refusal) → Right read o l c a → Kept (l ++ event c a ∷ [])
     kept_more c a r =
         let s = stepped c a r in
         let e : after (l ++ event c a ∷ []) ≡ step (after l) c a = after_more l (event c a) in
@@ -156,11 +156,11 @@ module _ {S : Type 0} (read : S → ℕ → ℕ) (o : Opened) where
         go (done d) = unfinished d
     granted m sound idle k i unfinished b bench _ (none_named h f j g w c q p) = true≢false (sym p ∙ idle c q)
 
-    start_granted : (m : List (Event S)) → Sound o (after m) → ((c : ℕ) → In o.benches c → busy o (after m) c ≡ false) → (k : ℕ) → In o.jobs k → (after m k ≡ Done → ⊥) → (b : ℕ) → In o.benches b → (c : Call) (a : Answer S) → Right read o m c a → c ≡ Start b → (j : ℕ) × (a ≡ Started j)
-    start_granted m sound idle k i un b bench (Start d) (Started j) r e = (j, refl)
-    start_granted m sound idle k i un b bench (Start d) (Ended j) r e = absurd r
-    start_granted m sound idle k i un b bench (Start d) (Told s) r e = absurd r
-    start_granted m sound idle k i un b bench (Start d) (Refused x) r e =
+    start_granted : (m : List (Event S)) → Sound o (after m) → ((c : ℕ) → In o.benches c → busy o (after m) c ≡ false) → (k : ℕ) → In o.jobs k → (after m k ≡ Done → ⊥) → (b : ℕ) → In o.benches b → (c : Call) (a : Result (Answer S) Refusal) → Right read o m c a → c ≡ Start b → (j : ℕ) × (a ≡ Ok (Started j))
+    start_granted m sound idle k i un b bench (Start d) (Ok (Started j)) r e = (j, refl)
+    start_granted m sound idle k i un b bench (Start d) (Ok (Ended j)) r e = absurd r
+    start_granted m sound idle k i un b bench (Start d) (Ok (Told s)) r e = absurd r
+    start_granted m sound idle k i un b bench (Start d) (Err x) r e =
         let q : d ≡ b = cc in
         absurd (granted m sound idle k i un d (subst (In o.benches) (sym q) bench) x r)
     start_granted m sound idle k i un b bench (Report d) a r e = let z : ◌≡◌ {A = ℕ} 0 1 = cc in absurd (omega arith)
@@ -188,7 +188,7 @@ module _ {S : Type 0} (read : S → ℕ → ℕ) (o : Opened) where
     lawful_none [] n h = at_point [] n kept_none (subst (NextRight read o []) (sym h) tt)
     lawful_none (x ∷ m) n h = let w : ◌≡◌ {A = ℕ} (length (x ∷ (m ++ n))) 0 = ap length h in absurd (omega arith)
 
-    module _ (l : List (Event S)) (c : Call) (a : Answer S) (kept : Kept l) (lawful : Lawful read o l) (right : Right read o l c a) where
+    module _ (l : List (Event S)) (c : Call) (a : Result (Answer S) Refusal) (kept : Kept l) (lawful : Lawful read o l) (right : Right read o l c a) where
       pub lawful_more : Lawful read o (l ++ event c a ∷ [])
       lawful_more m n h = go (cut_more m n l (event c a) h)
         where

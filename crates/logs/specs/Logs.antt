@@ -1,5 +1,5 @@
 -- The log of a board since its opening: the calls and their answers, in their order; and the laws that it keeps.
-use Rattle.std.specs.Prelude.{◌≡◌, ℕ, ◌+◌, ◌≤◌, Bool, true, false, cond, List, [], ◌∷◌, ◌++◌, ◌==◌, ◌≢◌}
+use Rattle.std.specs.Prelude.{◌≡◌, ℕ, ◌+◌, ◌≤◌, Bool, true, false, cond, List, [], ◌∷◌, ◌++◌, Ok, Err, Result, ◌==◌, ◌≢◌}
 use Rattle.refusals.specs.declared.Refusal.{Refusal}
 use Rattle.refusals.specs.declared.Refusal.TheVariants.{BenchUnknown, JobUnknown, BenchBusy, BenchIdle, AllStarted, NoneNamed}
 use Rattle.trees.specs.Sums.{In, only}
@@ -10,15 +10,15 @@ use Rattle.logs.specs.declared.call.Call.{Call}
 use Rattle.logs.specs.declared.call.Call.TheVariants.{Start, Report, Ask}
 use Rattle.logs.specs.declared.call.Sight.{Sight}
 use Rattle.logs.specs.declared.call.Answer.{Answer}
-use Rattle.logs.specs.declared.call.Answer.TheVariants.{Started, Done as Ended, Told, Refused}
+use Rattle.logs.specs.declared.call.Answer.TheVariants.{Started, Done as Ended, Told}
 use Rattle.logs.specs.declared.call.Tally.{Tally}
 use Rattle.logs.specs.Stands.{Opened, runs_on, held, busy, busy_benches, left, Ready}
 
 pub record Event (S : Type 0) : Type 0 where
   pub call : Call
-  pub answer : Answer S
+  pub answer : Result (Answer S) Refusal
 
-abbrev pub event : {S : Type 0} → Call → Answer S → Event S
+abbrev pub event : {S : Type 0} → Call → Result (Answer S) Refusal → Event S
 event c a = record { call = c; answer = a }
 
 -- How the jobs stand once job j was started on bench b; once what runs on bench b is done.
@@ -31,15 +31,15 @@ ended t b k = cond (runs_on b (t k)) Done (t k)
 module _ {S : Type 0} where
   -- A granted start on bench b that answers j starts j there. A granted report of b makes what runs there done. Nothing else
   -- changes how the jobs stand.
-  abbrev pub step : (ℕ → State) → Call → Answer S → ℕ → State
-  step t (Start b) (Started j) = begun t b j
-  step t (Start b) (Ended j) = t
-  step t (Start b) (Told s) = t
-  step t (Start b) (Refused e) = t
-  step t (Report b) (Started j) = t
-  step t (Report b) (Ended j) = ended t b
-  step t (Report b) (Told s) = t
-  step t (Report b) (Refused e) = t
+  abbrev pub step : (ℕ → State) → Call → Result (Answer S) Refusal → ℕ → State
+  step t (Start b) (Ok (Started j)) = begun t b j
+  step t (Start b) (Ok (Ended j)) = t
+  step t (Start b) (Ok (Told s)) = t
+  step t (Start b) (Err e) = t
+  step t (Report b) (Ok (Started j)) = t
+  step t (Report b) (Ok (Ended j)) = ended t b
+  step t (Report b) (Ok (Told s)) = t
+  step t (Report b) (Err e) = t
   step t (Ask j) a = t
 
   abbrev pub since : (ℕ → State) → List (Event S) → ℕ → State
@@ -51,32 +51,32 @@ module _ {S : Type 0} where
   after = since (λ k. Waiting)
 
   -- the event is a granted start; of job j; a granted report
-  abbrev pub is_start : Call → Answer S → Bool
-  is_start (Start b) (Started j) = true
-  is_start (Start b) (Ended j) = false
-  is_start (Start b) (Told s) = false
-  is_start (Start b) (Refused e) = false
+  abbrev pub is_start : Call → Result (Answer S) Refusal → Bool
+  is_start (Start b) (Ok (Started j)) = true
+  is_start (Start b) (Ok (Ended j)) = false
+  is_start (Start b) (Ok (Told s)) = false
+  is_start (Start b) (Err e) = false
   is_start (Report b) a = false
   is_start (Ask j) a = false
 
-  abbrev pub starts_job : ℕ → Call → Answer S → Bool
-  starts_job j (Start b) (Started i) = i == j
-  starts_job j (Start b) (Ended i) = false
-  starts_job j (Start b) (Told s) = false
-  starts_job j (Start b) (Refused e) = false
+  abbrev pub starts_job : ℕ → Call → Result (Answer S) Refusal → Bool
+  starts_job j (Start b) (Ok (Started i)) = i == j
+  starts_job j (Start b) (Ok (Ended i)) = false
+  starts_job j (Start b) (Ok (Told s)) = false
+  starts_job j (Start b) (Err e) = false
   starts_job j (Report b) a = false
   starts_job j (Ask i) a = false
 
-  abbrev pub is_report : Call → Answer S → Bool
+  abbrev pub is_report : Call → Result (Answer S) Refusal → Bool
   is_report (Start b) a = false
-  is_report (Report b) (Started j) = false
-  is_report (Report b) (Ended j) = true
-  is_report (Report b) (Told s) = false
-  is_report (Report b) (Refused e) = false
+  is_report (Report b) (Ok (Started j)) = false
+  is_report (Report b) (Ok (Ended j)) = true
+  is_report (Report b) (Ok (Told s)) = false
+  is_report (Report b) (Err e) = false
   is_report (Ask j) a = false
 
   -- how many events of a log pass the test
-  abbrev pub times : (Call → Answer S → Bool) → List (Event S) → ℕ
+  abbrev pub times : (Call → Result (Answer S) Refusal → Bool) → List (Event S) → ℕ
   times p [] = 0
   times p (e ∷ l) = only (p e.call e.answer) 1 + times p l
 
@@ -93,7 +93,7 @@ pub record Tallied {S : Type 0} (o : Opened) (l : List (Event S)) (t : Tally) : 
   pub left_is : t.left ≡ left o (after l)
 
 -- calls beside their answers
-abbrev pub paired : {S : Type 0} → List Call → List (Answer S) → List (Event S)
+abbrev pub paired : {S : Type 0} → List Call → List (Result (Answer S) Refusal) → List (Event S)
 paired [] xs = []
 paired (c ∷ cs) [] = []
 paired (c ∷ cs) (x ∷ xs) = event c x ∷ paired cs xs
@@ -122,24 +122,22 @@ module _ {S : Type 0} (read : S → ℕ → ℕ) (o : Opened) where
     pub job : In o.jobs j
     pub state : s.state ≡ after m j
     pub held_is : (a : ℕ) → read s.held a ≡ held o (after m) a
-    pub starts_are : s.starts ≡ starts m
-    pub reports_are : s.reports ≡ reports m
-    pub left_is : s.left ≡ left o (after m)
+    pub tallied : Tallied o m s.tally
 
   -- what may be answered to a call after the log m
-  abbrev pub Right : List (Event S) → Call → Answer S → Type 0
-  Right m (Start b) (Started j) = In o.benches b × (busy o (after m) b ≡ false) × Ready o (after m) j
-  Right m (Start b) (Ended j) = ⊥
-  Right m (Start b) (Told s) = ⊥
-  Right m (Start b) (Refused e) = StartRefused o (after m) b e
-  Right m (Report b) (Started j) = ⊥
-  Right m (Report b) (Ended j) = In o.benches b × In o.jobs j × (after m j ≡ Running b)
-  Right m (Report b) (Told s) = ⊥
-  Right m (Report b) (Refused e) = ReportRefused o (after m) b e
-  Right m (Ask j) (Started i) = ⊥
-  Right m (Ask j) (Ended i) = ⊥
-  Right m (Ask j) (Told s) = Seen m j s
-  Right m (Ask j) (Refused e) = AskRefused o j e
+  abbrev pub Right : List (Event S) → Call → Result (Answer S) Refusal → Type 0
+  Right m (Start b) (Ok (Started j)) = In o.benches b × (busy o (after m) b ≡ false) × Ready o (after m) j
+  Right m (Start b) (Ok (Ended j)) = ⊥
+  Right m (Start b) (Ok (Told s)) = ⊥
+  Right m (Start b) (Err e) = StartRefused o (after m) b e
+  Right m (Report b) (Ok (Started j)) = ⊥
+  Right m (Report b) (Ok (Ended j)) = In o.benches b × In o.jobs j × (after m j ≡ Running b)
+  Right m (Report b) (Ok (Told s)) = ⊥
+  Right m (Report b) (Err e) = ReportRefused o (after m) b e
+  Right m (Ask j) (Ok (Started i)) = ⊥
+  Right m (Ask j) (Ok (Ended i)) = ⊥
+  Right m (Ask j) (Ok (Told s)) = Seen m j s
+  Right m (Ask j) (Err e) = AskRefused o j e
 
   -- the first event of n, if there is one, has an answer that was right after m
   abbrev pub NextRight : List (Event S) → List (Event S) → Type 0
@@ -149,7 +147,7 @@ module _ {S : Type 0} (read : S → ℕ → ℕ) (o : Opened) where
   -- the first event of n, if there is one and it is a start on bench b, is granted
   abbrev pub StartGranted : ℕ → List (Event S) → Type 0
   StartGranted b [] = Unit {0}
-  StartGranted b (e ∷ n) = e.call ≡ Start b → (j : ℕ) × (e.answer ≡ Started j)
+  StartGranted b (e ∷ n) = e.call ≡ Start b → (j : ℕ) × (e.answer ≡ Ok (Started j))
 
   -- what holds at the point of a log that comes after the events m and before the events n
   pub record AtPoint (m n : List (Event S)) : Type 0 where

@@ -1,5 +1,8 @@
+ghost use Rattle.std.specs.Prelude.{Some};
+ghost use Rattle.logs.specs.Counts.{counted};
+
 use jobs::State;
-use refusals::Refusal;
+use std::fmt;
 
 /// What is asked of a board.
 #[derive(Clone, Copy)]
@@ -12,31 +15,6 @@ pub enum Call {
     Ask(usize),
 }
 
-/// How a job and the hall stand.
-#[derive(Clone, Copy)]
-pub struct Sight<K> {
-    pub state: State,
-    /// What the jobs hold of the floor.
-    pub held: K,
-    /// How many starts were granted since the opening.
-    pub starts: usize,
-    /// How many reports were granted since the opening.
-    pub reports: usize,
-    /// How many jobs are not done.
-    pub left: usize,
-}
-
-/// What a board answers.
-#[derive(Clone, Copy)]
-pub enum Answer<K> {
-    /// The bench starts this job.
-    Started(usize),
-    /// This job is done, and its bench is idle.
-    Done(usize),
-    Told(Sight<K>),
-    Refused(Refusal),
-}
-
 /// What came of the calls so far.
 #[derive(Clone, Copy)]
 pub struct Tally {
@@ -46,4 +24,35 @@ pub struct Tally {
     pub reports: usize,
     /// How many jobs are not done.
     pub left: usize,
+}
+
+/// The three counts, parted by spaces.
+impl fmt::Display for Tally {
+    ghost output = { λ t. Some (counted t) };
+
+    fn fmt<W: fmt::Write>(&self, f: &mut fmt::Formatter<W>) -> fmt::Result {
+        let (starts, reports) = (self.starts, self.reports);
+        let left = self.left;
+        write!(f, "{starts} {reports} {left}")
+    }
+}
+
+/// How a job and the hall stand.
+#[derive(Clone, Copy)]
+pub struct Sight<K> {
+    pub state: State,
+    /// What the jobs hold of the floor.
+    pub held: K,
+    /// What came of the calls since the opening.
+    pub tally: Tally,
+}
+
+/// What a board answers to a call that it grants.
+#[derive(Clone, Copy)]
+pub enum Answer<K> {
+    /// The bench starts this job.
+    Started(usize),
+    /// This job is done, and its bench is idle.
+    Done(usize),
+    Told(Sight<K>),
 }

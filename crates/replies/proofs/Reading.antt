@@ -3,8 +3,18 @@ use Rattle.std.proofs.Common.{◌≡◌, ℕ, ◌+◌, ◌-◌, ◌*◌, ◌<◌
 use Rattle.std.proofs.lemmas.List.{drop_more}
 use Rattle.std.proofs.lemmas.Bool.{cases_Bool, cases_eq, cond-true, cond-false}
 use Rattle.std.proofs.lemmas.Bool.Decides.{nat_tests}
+use Rattle.std.specs.Char.{IsDigitOf}
 use Rattle.prints.specs.Decimal.{digit, decimal}
 use Rattle.prints.proofs.Numeral.{lead, past, decimal_zero, decimal_push, decimal_digit, decimal_first, decimal_first_digit, past_decimal}
+
+-- what `to_digit` tells of a byte
+pub no_digit : (c : ℕ) → (48 ≤ c → c ≤ 57 → 58 ≤ c) → digit c ≡ false
+no_digit c h = grind (arith, nat_tests)
+
+pub is_digit : (c d : ℕ) → IsDigitOf c d → d < 10 → (digit c ≡ true) × (d ≡ c - 48)
+is_digit c d (inl h) low = (grind (arith, nat_tests), omega arith)
+is_digit c d (inr (inl h)) low = absurd (omega arith)
+is_digit c d (inr (inr h)) low = absurd (omega arith)
 
 -- what stands before `rest` are digits, and they write n
 pub record Read (all : List ℕ) (n : ℕ) (rest : List ℕ) : Type 0 where
@@ -71,9 +81,8 @@ decimal_on n (c ∷ cs) p e =
     let last = ap (λ l. l ++ cs) (decimal_push n (c - 48) p (omega arith)) in
     ap decimal (cond-true _ _ _ d) ∙ rest ∙ last ∙ append_assoc (decimal n) _ cs ∙ ap (λ x. decimal n ++ (x ∷ cs)) b.2
 
--- all bytes are read, and the first is no zero
-pub read_all : (c : ℕ) (cs : List ℕ) (n : ℕ) → (c ≡ 48 → ⊥) → Read (c ∷ cs) n [] → c ∷ cs ≡ decimal n
-read_all c cs n ne r =
+read_some : (c : ℕ) (cs : List ℕ) (n : ℕ) → (c ≡ 48 → ⊥) → Read (c ∷ cs) n [] → c ∷ cs ≡ decimal n
+read_some c cs n ne r =
     let d = first_digit c cs r.behind in
     let b = of_digit c d in
     let some : 0 < c - 48 = grind arith in
@@ -81,3 +90,16 @@ read_all c cs n ne r =
     let first = decimal_digit (c - 48) some (omega arith) ∙ ap (λ x. x ∷ []) b.2 in
     let start : c - 48 ≡ 0 * 10 + (c - 48) = omega arith in
     ap (λ l. l ++ cs) (sym first) ∙ sym rest ∙ ap decimal (ap (λ x. lead x cs) start ∙ sym (cond-true _ _ _ d) ∙ r.number)
+
+read_zero : (n : ℕ) → Read (48 ∷ []) n [] → 48 ∷ [] ≡ decimal n
+read_zero n r = let z : 0 ≡ n = r.number in sym decimal_zero ∙ ap decimal z
+
+-- all bytes are read, and the first is no zero unless it is alone
+pub read_all : (c : ℕ) (cs : List ℕ) (n : ℕ) → (c ≡ 48 → cs ≡ []) → Read (c ∷ cs) n [] → c ∷ cs ≡ decimal n
+read_all c cs n alone r = go (cases_eq c 48)
+  where
+    go : (c ≡ 48) ⊎ (c ≡ 48 → ⊥) → c ∷ cs ≡ decimal n
+    go (inl e) =
+        let bytes : c ∷ cs ≡ 48 ∷ [] = let none = alone e in cc in
+        bytes ∙ read_zero n (subst (λ l. Read l n []) bytes r)
+    go (inr e) = read_some c cs n e r

@@ -11,15 +11,12 @@ fn number_of(digits: &[u8]) -> Option<usize>
     ensures { MatchOption result ((n : ℕ) → digits.now ≢ decimal n) (λ v. (n : ℕ) × (digits.now ≡ decimal n) × (v ≡ held_number n)) }
 {
     let (first, rest) = digits.split_first()?;
-    if *first == b'0' {
-        return if rest.is_empty() { Some(0) } else { None };
+    if *first == b'0' && !rest.is_empty() {
+        return None;
     }
     let mut number: usize = 0;
     for digit in digits {
-        if !digit.is_ascii_digit() {
-            return None;
-        }
-        let value = usize::from(*digit - b'0');
+        let value = char::from(*digit).to_digit(10)? as usize;
         number = number.saturating_mul(10).saturating_add(value);
     }
     Some(number)

@@ -5,7 +5,7 @@
 mod tests {
     use amounts::Places;
     use jobs::State;
-    use logs::{Answer, Call, Sight};
+    use logs::{Answer, Call, Sight, Tally};
     use refusals::Refusal;
     use replies::{call_of, end_line, reply_line};
     use std::alloc::Global;
@@ -71,7 +71,7 @@ mod tests {
         rt: &impl Abort,
         heap: Global,
         call: Call,
-        answer: Answer<Places>,
+        answer: Result<Answer<Places>, Refusal>,
         line: &str,
     ) -> Result<(), Fail> {
         let told = reply_line(heap, call, &answer)?;
@@ -79,23 +79,28 @@ mod tests {
         Ok(())
     }
 
+    // Five granted starts, three granted reports, and 81 jobs that are not done.
+    const TALLY: Tally = Tally {
+        starts: 5,
+        reports: 3,
+        left: 81,
+    };
+
     // What is told of a job in this state after five granted starts and three granted reports.
-    fn seen(state: State) -> Answer<Places> {
-        Answer::Told(Sight {
+    fn seen(state: State) -> Result<Answer<Places>, Refusal> {
+        Ok(Answer::Told(Sight {
             state,
             held: Places { count: 21 },
-            starts: 5,
-            reports: 3,
-            left: 81,
-        })
+            tally: TALLY,
+        }))
     }
 
     #[test]
     fn answers(rt: HostRuntime) -> Result<(), Fail> {
         let heap = rt.alloc();
-        let granted = Answer::Started(7);
+        let granted = Ok(Answer::Started(7));
         tells(&rt, heap, Call::Start(2), granted, "started 7 2\n")?;
-        let granted = Answer::Done(7);
+        let granted = Ok(Answer::Done(7));
         tells(&rt, heap, Call::Report(2), granted, "done 7 2\n")?;
         let waiting = seen(State::Waiting);
         tells(
@@ -115,9 +120,9 @@ mod tests {
         )?;
         let done = seen(State::Done);
         tells(&rt, heap, Call::Ask(1), done, "state 1 done 0 21 5 3 81\n")?;
-        let busy = Answer::Refused(Refusal::BenchBusy { bench: 2 });
+        let busy = Err(Refusal::BenchBusy { bench: 2 });
         tells(&rt, heap, Call::Start(2), busy, "refused 4 21 2 0\n")?;
-        let unknown = Answer::Refused(Refusal::JobUnknown);
+        let unknown = Err(Refusal::JobUnknown);
         tells(
             &rt,
             heap,
@@ -129,7 +134,7 @@ mod tests {
 
     #[test]
     fn ends(rt: HostRuntime) -> Result<(), Fail> {
-        let told = end_line(rt.alloc(), 5, 3, 81)?;
+        let told = end_line(rt.alloc(), TALLY)?;
         assert_eq!(rt; told.as_str(), "end 5 3 81\n");
         Ok(())
     }

@@ -1,6 +1,6 @@
 -- A walk along the chain of a job's children in lent records. What it keeps is told wherever the records are those of a tree with
 -- its chains; of other records nothing is known.
-use Rattle.std.proofs.Common.{◌≡◌, ℕ, ◌+◌, ◌<◌, ◌≤◌, Bool, true, false, ◌&&◌, leb, List, length, get_or, Some, None, Option, sym, refl, ap, ◌∙◌, subst, inl, inr, arith, MatchOption}
+use Rattle.std.proofs.Common.{◌≡◌, ℕ, ◌+◌, ◌<◌, ◌≤◌, Bool, true, false, ◌&&◌, leb, List, length, get_or, Some, None, Option, Bor, sym, refl, ap, ◌∙◌, subst, inl, inr, arith, MatchOption}
 use Rattle.std.proofs.lemmas.List.{get_or-map}
 use Rattle.std.proofs.lemmas.Bool.{cases_eq, cases_lt, cond-true, and_from, le-leb}
 use Rattle.amounts.specs.Axes.{most, Sum}
@@ -14,6 +14,8 @@ use Rattle.intake.specs.Faults.{par_of}
 use Rattle.peaks.proofs.Bounded.{Reads, work_most, output_most, outputs_most}
 use Rattle.peaks.proofs.Gathering.{before, before_none, before_all, before_most, before_next}
 use Rattle.rules.specs.Records.{state_in, ChainedRecords}
+use Rattle.rules.specs.declared.kin.Children.{Children}
+use Rattle.rules.specs.Children.{Gives}
 
 module _ {S : Type 0} (w : ℕ) (read : S → ℕ → ℕ) (xs : List (Job S)) (job : ℕ) where
   -- P n, wherever the job is one of a tree of n jobs with its chains
@@ -32,6 +34,11 @@ module _ {S : Type 0} (w : ℕ) (read : S → ℕ → ℕ) (xs : List (Job S)) (
   abbrev pub DoneTo : ℕ → Type 0
   DoneTo last = InTree (λ n. (k : ℕ) → In n k → k ≤ last → par_of xs n k ≡ job → state_in n xs k ≡ Done)
 
+  -- where the walk s of the job's children stands
+  pub record Walks (s : Children S) : Type 0 where
+    pub same : s.jobs.now ≡ xs
+    pub comes : Comes s.last s.next
+
   -- a turn of the walk: c comes after `last`, and r is its record
   pub record Turn (last c : ℕ) (r : Job S) : Type 0 where
     pub comes : Comes last c
@@ -44,20 +51,24 @@ module _ {S : Type 0} (w : ℕ) (read : S → ℕ → ℕ) (xs : List (Job S)) (
   comes_first r inside is n tree own =
       subst (NextChild n (par_of xs n) job 0) (at_read (λ j. j.first_child) xs job r inside is) (tree.chained.firsts job own)
 
-  pub gathered_none : (x : S) (c : ℕ) → ((a : ℕ) → read x a ≡ 0) → Comes 0 c → Gathered x c
-  gathered_none x c zero comes n tree own a =
-      zero a ∙ sym (before_none n (par_of xs n) (output_of read xs a) job c (comes n tree own))
+  -- the walk s begins, and x is nothing
+  module _ (s : Children S) (r : Job S) (inside : job < length xs) (is : r ≡ get_or xs job r) (same : s.jobs.now ≡ xs) (last : s.last ≡ 0) (next : s.next ≡ r.first_child) where
+    pub walks_first : Walks s
+    walks_first = record { same = same; comes = rw (last, next) (comes_first r inside is) }
 
-  pub done_none : DoneTo 0
-  done_none n tree own k in-k low child = absurd (omega arith)
+    pub gathered_first : (x : S) → ((a : ℕ) → read x a ≡ 0) → Gathered x s.next
+    gathered_first x zero n tree own a =
+        zero a ∙ sym (before_none n (par_of xs n) (output_of read xs a) job s.next (rw next (comes_first r inside is n tree own)))
 
-  -- the walk stops only at the end of the chain
-  pub comes_last : (last c : ℕ) → Comes last c → (last < c → length xs ≤ c) → InTree (λ n. c ≡ 0)
-  comes_last last c comes stops n tree own =
-      elim (cases_eq c 0) [
-        | inl e ↦ e
-        | inr some ↦ let s = (comes n tree own).some some in absurd (omega (arith, s.1, stops s.0, tree.sound.records))
-      ]
+    pub done_first : DoneTo s.last
+    done_first n tree own k in-k low child = absurd (omega arith)
+
+  -- the walk s stops only at the end of the chain
+  pub never_breaks : (s : Children S) → Walks s → Gives s (Some None) s → InTree (λ n. ⊥)
+  never_breaks s walks gives n tree own =
+      let c = (walks.comes n tree own).some gives.0 in
+      let stops : length xs ≤ s.next = subst (λ l. length l ≤ s.next) walks.same (gives.1 c.0) in
+      omega (arith, c.1, tree.sound.records)
 
   pub gathered_all : (x : S) (c : ℕ) → Gathered x c → c ≡ 0 → InTree (λ n. (a : ℕ) → read x a ≡ kids n (par_of xs n) (output_of read xs a) job)
   gathered_all x c sum end n tree own a =
@@ -142,3 +153,17 @@ module _ {S : Type 0} {w : ℕ} {read : S → ℕ → ℕ} {xs : List (Job S)} {
           | inr passed ↦ done n tree own k in-k passed child
         ]
       ]
+
+-- the walk s gave the record r, and is t now
+module _ {S : Type 0} {w : ℕ} {read : S → ℕ → ℕ} {xs : List (Job S)} {job : ℕ} {s : Children S} (walks : Walks w read xs job s) (r : Bor (Job S)) (t : Children S) (gives : Gives s (Some (Some r)) t) where
+  pub turn_of : Turn w read xs job s.last s.next r.now
+  turn_of =
+      record {
+        comes = walks.comes;
+        rises = gives.0;
+        inside = subst (λ l. s.next < length l) walks.same gives.1;
+        is = subst (λ l. r.now ≡ get_or l s.next r.now) walks.same gives.2;
+      }
+
+  pub walks_next : Walks w read xs job t
+  walks_next = record { same = ap (λ b. b.now) gives.3 ∙ walks.same; comes = rw (gives.4, gives.5) (comes_next turn_of) }

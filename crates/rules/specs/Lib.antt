@@ -1,3 +1,4 @@
+pub mod Children
 pub mod Records
 pub mod Acts
 pub mod Reached

@@ -1,5 +1,5 @@
 -- The job records and the hall of a board, as the log's laws see them, and what a call changes of them.
-use Rattle.std.specs.Prelude.{◌≡◌, ℕ, zero, suc, ◌+◌, ◌-◌, cond, ◌&&◌, List, [], ◌∷◌, map, Some, None, Option, nat_le, slice_index_or, slice_set}
+use Rattle.std.specs.Prelude.{◌≡◌, ℕ, zero, suc, ◌+◌, ◌-◌, cond, ◌&&◌, List, [], ◌∷◌, map, replicate, Some, None, Option, nat_le, slice_index_or, slice_set}
 use Rattle.trees.specs.Sums.{In}
 use Rattle.trees.specs.Trees.{Chained}
 use Rattle.trees.specs.Lines.{place}
@@ -41,6 +41,19 @@ module _ {S : Type 0} where
   -- the tree and the hall that a board has open
   abbrev pub opened_of : (S → ℕ → ℕ) → Hall S → List (Job S) → Opened
   opened_of read h xs = opened_with read xs h.jobs h.benches h.floor
+
+  -- nothing has been granted yet; x is held
+  abbrev pub unused : ℕ → ℕ → S → S → Hall S
+  unused n benches floor x =
+      record {
+        jobs = n;
+        benches = benches;
+        floor = floor;
+        held = x;
+        table = replicate 64 None;
+        starts = 0;
+        reports = 0;
+      }
 
   -- job j is put on bench b, and x is held from now on; bench b is cleared
   abbrev pub seat : Hall S → ℕ → ℕ → S → Hall S

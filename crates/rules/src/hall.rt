@@ -1,3 +1,8 @@
+ghost use Rattle.std.specs.Prelude.{◌≡◌};
+ghost use Rattle.amounts.specs.Axes.{Same};
+ghost use Rattle.rules.specs.Records.{unused};
+
+use amounts::Amount;
 use refusals::MOST_BENCHES;
 
 /// The places of the bench table.
@@ -19,4 +24,22 @@ pub struct Hall<K> {
     pub starts: usize,
     /// The reports granted since the opening.
     pub reports: usize,
+}
+
+impl<K: Amount> Hall<K> {
+    /// A hall where nothing has been granted yet: all benches are idle and nothing is held.
+    pub fn new(jobs: usize, benches: usize, floor: K) -> Hall<K>
+        ensures unused { result ≡ unused jobs benches floor result.held }
+        ensures nothing { Same K.Amount.reading result.held (λ _. 0) }
+    {
+        Hall {
+            jobs,
+            benches,
+            floor,
+            held: K::zero(),
+            table: [None; BENCHES],
+            starts: 0,
+            reports: 0,
+        }
+    }
 }

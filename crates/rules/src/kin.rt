@@ -2,47 +2,76 @@
 //! altered them: a chain runs in rising job numbers, so a next child that is not above the last
 //! one, or has no record, belongs to no tree, and the walk stops there.
 ghost use Rattle.std.specs.Prelude.{◌≡◌, ℕ, ◌+◌, MatchOption};
+ghost use Rattle.std.specs.Iterator.{at_most};
 ghost use Rattle.trees.specs.Sums.{In};
 ghost use Rattle.trees.specs.Trees.{kids};
 ghost use Rattle.jobs.specs.Fields.{work_of, output_of};
 ghost use Rattle.intake.specs.Faults.{par_of};
 ghost use Rattle.logs.specs.Stands.{startable as Startable};
 ghost use Rattle.rules.specs.Records.{state_in, ChainedRecords};
+ghost use Rattle.rules.specs.Children.{Gives, steps_left};
 
 use amounts::Amount;
 use jobs::{Job, State};
 
-/// The sum of the outputs of the job's children; none only where the records are not those of a
-/// tree.
-fn inputs<K: Amount>(jobs: &[Job<K>], job: usize) -> Option<K>
-    ensures { (n : ℕ) → ChainedRecords K.Amount.width K.Amount.reading jobs.now n → In n job → MatchOption result ⊥ (λ x. (a : ℕ) → K.Amount.reading x a ≡ kids n (par_of jobs.now n) (output_of K.Amount.reading jobs.now a) job) }
-{
-    if job >= jobs.len() {
-        return None;
-    }
-    let parent = &jobs[job];
-    let mut total = K::zero();
-    let mut last = 0;
-    let mut child = parent.first_child as usize;
-    while last < child && child < jobs.len() {
-        let record = &jobs[child];
-        total = total.sum(&record.output)?;
-        last = child;
-        child = record.next_sibling as usize;
-    }
-    if child == 0 { Some(total) } else { None }
+/// The records of a job's children, in rising job numbers. The last item is none where the chain
+/// breaks off.
+#[derive(Drop)]
+struct Children<'a, K> {
+    jobs: &'a [Job<K>],
+    /// The last child that was given; 0 before the first.
+    last: usize,
+    /// The next child; 0 at the end of the chain.
+    next: usize,
 }
 
-/// What a job gives back to the floor when it is done: its work and its inputs; none only where
-/// the records are not those of a tree.
+impl<'a, K> Children<'a, K> {
+    /// The walk before the first child.
+    fn of(jobs: &'a [Job<K>], parent: &Job<K>) -> Children<'a, K>
+        ensures lent { result.jobs.now ≡ jobs.now }
+        ensures first { (result.last ≡ 0) × (result.next ≡ parent.now.first_child) }
+    {
+        Children {
+            jobs,
+            last: 0,
+            next: parent.first_child as usize,
+        }
+    }
+}
+
+impl<'a, K> Iterator for Children<'a, K> {
+    type Item = Option<&'a Job<K>>;
+
+    ghost next_gives = { Gives };
+
+    ghost remaining = { λ s. at_most (steps_left s) };
+
+    fn next(&mut self) -> Option<Option<&'a Job<K>>> {
+        let child = self.next;
+        if child == 0 {
+            return None;
+        }
+        if child <= self.last || child >= self.jobs.len() {
+            self.next = 0;
+            return Some(None);
+        }
+        let record = &self.jobs[child];
+        self.last = child;
+        self.next = record.next_sibling as usize;
+        Some(Some(record))
+    }
+}
+
+/// What a job gives back to the floor when it is done: its work and its inputs, the outputs of its
+/// children; none only where the records are not those of a tree.
 pub fn freed<K: Amount>(jobs: &[Job<K>], job: usize) -> Option<K>
     ensures { (n : ℕ) → ChainedRecords K.Amount.width K.Amount.reading jobs.now n → In n job → MatchOption result ⊥ (λ x. (a : ℕ) → K.Amount.reading x a ≡ work_of K.Amount.reading jobs.now a job + kids n (par_of jobs.now n) (output_of K.Amount.reading jobs.now a) job) }
 {
-    if job >= jobs.len() {
-        return None;
+    let record = jobs.get(job)?;
+    let mut given = K::zero();
+    for child in Children::of(jobs, record) {
+        given = given.sum(&child?.output)?;
     }
-    let record = &jobs[job];
-    let given = inputs(jobs, job)?;
     record.work.sum(&given)
 }
 
@@ -50,22 +79,19 @@ pub fn freed<K: Amount>(jobs: &[Job<K>], job: usize) -> Option<K>
 pub fn startable<K: Amount>(jobs: &[Job<K>], job: usize) -> bool
     ensures { (n : ℕ) → ChainedRecords K.Amount.width K.Amount.reading jobs.now n → In n job → result ≡ Startable n (par_of jobs.now n) (state_in n jobs.now) job }
 {
-    if job >= jobs.len() {
-        return false;
-    }
-    let parent = &jobs[job];
-    let State::Waiting = parent.state else {
+    let Some(record) = jobs.get(job) else {
         return false;
     };
-    let mut last = 0;
-    let mut child = parent.first_child as usize;
-    while last < child && child < jobs.len() {
-        let record = &jobs[child];
-        let State::Done = record.state else {
+    let State::Waiting = record.state else {
+        return false;
+    };
+    for child in Children::of(jobs, record) {
+        let Some(child) = child else {
             return false;
         };
-        last = child;
-        child = record.next_sibling as usize;
+        let State::Done = child.state else {
+            return false;
+        };
     }
-    child == 0
+    true
 }

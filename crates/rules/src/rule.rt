@@ -1,5 +1,5 @@
-ghost use Rattle.std.specs.Prelude.{◌≡◌, ℕ, ◌≤◌, List, MatchOption};
-ghost use Rattle.refusals.specs.Judged.{First};
+ghost use Rattle.std.specs.Prelude.{◌≡◌, ℕ, ◌≤◌, List, ⊤};
+ghost use Rattle.refusals.specs.Judged.{Judged};
 ghost use Rattle.trees.specs.Lines.{Line};
 ghost use Rattle.intake.specs.Faults.{par_of};
 ghost use Rattle.intake.specs.Taken.{Sound};
@@ -20,9 +20,9 @@ pub trait Rule<K: Amount>: Sized {
     /// What the rule means: what it refuses and names, and what it becomes when it is told.
     ghost acts: { Acts Self K };
 
-    /// Why the rule refuses to open a tree of `n` jobs with this line, if it does.
-    fn refuses(&self, jobs: &[Job<K>], n: usize, line: &[u32]) -> Option<Refusal>
-        ensures { Sound K.Amount.width K.Amount.reading jobs.now n → Line n (par_of jobs.now n) line.now → MatchOption result ((e : Refusal) → acts.refuses self.now jobs.now n line.now e → ⊥) (First (acts.refuses self.now jobs.now n line.now)) };
+    /// Refuses to open a tree of `n` jobs with this line where it has to.
+    fn check(&self, jobs: &[Job<K>], n: usize, line: &[u32]) -> Result<(), Refusal>
+        ensures { Sound K.Amount.width K.Amount.reading jobs.now n → Line n (par_of jobs.now n) line.now → Judged (acts.refuses self.now jobs.now n line.now) (λ _. ⊤) result };
 
     /// The job to start next, or none.
     fn name(&self, hall: &Hall<K>, jobs: &[Job<K>]) -> Option<usize>

@@ -1,5 +1,5 @@
 -- A desk is served, one call more.
-use Rattle.std.proofs.Common.{◌≡◌, ℕ, ◌<◌, ◌⊎◌, List, [], ◌∷◌, ◌++◌, length, get_or, sym, refl, ap, ◌∙◌, subst, inl, inr, append_assoc, append-nil, arith}
+use Rattle.std.proofs.Common.{◌≡◌, ℕ, ◌<◌, ◌⊎◌, List, [], ◌∷◌, ◌++◌, length, get_or, Result, sym, refl, ap, ◌∙◌, subst, inl, inr, append_assoc, append-nil, arith}
 use Rattle.refusals.specs.declared.Refusal.{Refusal}
 use Rattle.refusals.specs.Judged.{First}
 use Rattle.jobs.specs.declared.Job.{Job}
@@ -8,11 +8,11 @@ use Rattle.logs.specs.declared.call.Answer.{Answer}
 use Rattle.logs.specs.declared.call.Tally.{Tally}
 use Rattle.logs.specs.Stands.{Opened}
 use Rattle.logs.specs.Logs.{Event, event, Tallied, paired}
-use Rattle.rules.specs.Records.{opened_with}
 use Rattle.rules.specs.Duties.{Safe, Willing}
 use Rattle.rules.specs.Acts.{Acts}
 use Rattle.boards.specs.declared.board.Board.{Board}
-use Rattle.boards.specs.Faults.{OpenFault}
+use Rattle.boards.specs.declared.opening.Plan.{Plan}
+use Rattle.boards.specs.Faults.{OpenFault, planned}
 use Rattle.boards.specs.Course.{Led}
 use Rattle.boards.proofs.Courses.{along}
 use Rattle.shifts.specs.Shifts.{CarriedOut, Served, Opens, NotOpened, Shift, WholeShift, Answered}
@@ -66,12 +66,12 @@ paired_none [] = refl
 paired_none (c ∷ cs) = refl
 
 -- one call more of a list
-paired_more : {S : Type 0} (cs : List Call) (xs : List (Answer S)) (d : Call) (x : Answer S) → length xs < length cs → paired cs (xs ++ x ∷ []) ≡ paired cs xs ++ event (get_or cs (length xs) d) x ∷ []
+paired_more : {S : Type 0} (cs : List Call) (xs : List (Result (Answer S) Refusal)) (d : Call) (x : Result (Answer S) Refusal) → length xs < length cs → paired cs (xs ++ x ∷ []) ≡ paired cs xs ++ event (get_or cs (length xs) d) x ∷ []
 paired_more [] xs d x h = absurd (omega arith)
 paired_more (c ∷ cs) [] d x h = ap (λ l. event c x ∷ l) (paired_none cs)
 paired_more (c ∷ cs) (y ∷ xs) d x h = ap (λ l. event c y ∷ l) (paired_more cs xs d x (omega arith))
 
-pub log_more : {S : Type 0} (m : List (Event S)) (cs : List Call) (xs : List (Answer S)) (i : ℕ) (d : Call) (x : Answer S) → length xs ≡ i → i < length cs → (m ++ paired cs xs) ++ event (get_or cs i d) x ∷ [] ≡ m ++ paired cs (xs ++ x ∷ [])
+pub log_more : {S : Type 0} (m : List (Event S)) (cs : List Call) (xs : List (Result (Answer S) Refusal)) (i : ℕ) (d : Call) (x : Result (Answer S) Refusal) → length xs ≡ i → i < length cs → (m ++ paired cs xs) ++ event (get_or cs i d) x ∷ [] ≡ m ++ paired cs (xs ++ x ∷ [])
 log_more m cs xs i d x e h =
     append_assoc m (paired cs xs) (event (get_or cs i d) x ∷ []) ∙ ap (λ l. m ++ l) (ap (λ k. paired cs xs ++ event (get_or cs k d) x ∷ []) (sym e) ∙ sym (paired_more cs xs d x (omega arith)))
 
@@ -79,15 +79,15 @@ module _ {R S : Type 0} (w : ℕ) (read : S → ℕ → ℕ) (acts : Acts R S) (
   pub carried : (o : Opened) (l : List (Event S)) (d : Board S R) (zs : List (Job S)) → Led w read acts o l d zs → CarriedOut w read acts o l zs
   carried o l d zs led = record { lawful = (along w read acts safe willing led).lawful; board = d; led = led }
 
-  pub not_opened : (b : Board S R) (r : R) → b.rule ≡ r → (xs : List (Job S)) (n : ℕ) (row : List ℕ) (benches : ℕ) (floor : S) (zs : List (Job S)) (e : Refusal) → First (OpenFault w read acts b.rule xs n row benches floor) e → zs ≡ xs → NotOpened w read acts r xs n row benches floor zs e
-  not_opened b r is xs n row benches floor zs e first same = record { first = subst (λ v. First (OpenFault w read acts v xs n row benches floor) e) is first; same = same }
+  pub not_opened : (b : Board S R) (r : R) → b.rule ≡ r → (xs : List (Job S)) (plan : Plan S) (zs : List (Job S)) (e : Refusal) → First (OpenFault w read acts b.rule xs plan) e → zs ≡ xs → NotOpened w read acts r xs plan zs e
+  not_opened b r is xs plan zs e first same = record { first = subst (λ v. First (OpenFault w read acts v xs plan) e) is first; same = same }
 
   -- the board was opened under the rule r
-  module _ (b : Board S R) (r : R) (is : b.rule ≡ r) (xs : List (Job S)) (n : ℕ) (row : List ℕ) (benches : ℕ) (floor : S) (d : Board S R) (zs : List (Job S)) (opens : Opens w read acts b.rule xs n row benches floor zs) where
-    pub opens_so : Opens w read acts r xs n row benches floor zs
-    opens_so = subst (λ v. Opens w read acts v xs n row benches floor zs) is opens
+  module _ (b : Board S R) (r : R) (is : b.rule ≡ r) (xs : List (Job S)) (plan : Plan S) (d : Board S R) (zs : List (Job S)) (opens : Opens w read acts b.rule xs plan zs) where
+    pub opens_so : Opens w read acts r xs plan zs
+    opens_so = subst (λ v. Opens w read acts v xs plan zs) is opens
 
-    pub shifted : (before after : List (Event S)) → Served w read acts (opened_with read xs n benches floor) [] before after d zs → Shift w read acts r xs n row benches floor zs before after
+    pub shifted : (before after : List (Event S)) → Served w read acts (planned read xs plan) [] before after d zs → Shift w read acts r xs plan zs before after
     shifted before after s =
         record {
           opens = opens_so;
@@ -95,19 +95,19 @@ module _ {R S : Type 0} (w : ℕ) (read : S → ℕ → ℕ) (acts : Acts R S) (
           unentered = s.unentered;
           few = s.few;
           journaled = s.journaled;
-          carried = carried (opened_with read xs n benches floor) (s.events ++ s.unentered) d zs s.led;
+          carried = carried (planned read xs plan) (s.events ++ s.unentered) d zs s.led;
         }
 
-    pub shifted_whole : (before after : List (Event S)) (t : Tally) (s : Served w read acts (opened_with read xs n benches floor) [] before after d zs) → s.unentered ≡ [] → ((l : List (Event S)) → Led w read acts (opened_with read xs n benches floor) l d zs → Tallied (opened_with read xs n benches floor) l t) → WholeShift w read acts r xs n row benches floor zs before after t
+    pub shifted_whole : (before after : List (Event S)) (t : Tally) (s : Served w read acts (planned read xs plan) [] before after d zs) → s.unentered ≡ [] → ((l : List (Event S)) → Led w read acts (planned read xs plan) l d zs → Tallied (planned read xs plan) l t) → WholeShift w read acts r xs plan zs before after t
     shifted_whole before after t s all tells =
-        let led : Led w read acts (opened_with read xs n benches floor) s.events d zs = subst (λ l. Led w read acts (opened_with read xs n benches floor) l d zs) (ap (λ u. s.events ++ u) all ∙ append-nil s.events) s.led in
+        let led : Led w read acts (planned read xs plan) s.events d zs = subst (λ l. Led w read acts (planned read xs plan) l d zs) (ap (λ u. s.events ++ u) all ∙ append-nil s.events) s.led in
         record {
           opens = opens_so;
           events = s.events;
           journaled = s.journaled;
-          carried = carried (opened_with read xs n benches floor) s.events d zs led;
+          carried = carried (planned read xs plan) s.events d zs led;
           tallied = tells s.events led;
         }
 
-    pub answered : (calls : List Call) (answers : List (Answer S)) → Led w read acts (opened_with read xs n benches floor) (paired calls answers) d zs → Answered w read acts r xs n row benches floor zs calls answers
-    answered calls answers led = record { opens = opens_so; carried = carried (opened_with read xs n benches floor) (paired calls answers) d zs led }
+    pub answered : (calls : List Call) (answers : List (Result (Answer S) Refusal)) → Led w read acts (planned read xs plan) (paired calls answers) d zs → Answered w read acts r xs plan zs calls answers
+    answered calls answers led = record { opens = opens_so; carried = carried (planned read xs plan) (paired calls answers) d zs led }

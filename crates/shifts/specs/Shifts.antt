@@ -8,10 +8,10 @@ use Rattle.logs.specs.declared.call.Answer.{Answer}
 use Rattle.logs.specs.declared.call.Tally.{Tally}
 use Rattle.logs.specs.Stands.{Opened}
 use Rattle.logs.specs.Logs.{Event, Tallied, paired, Lawful}
-use Rattle.rules.specs.Records.{opened_with}
 use Rattle.rules.specs.Acts.{Acts}
 use Rattle.boards.specs.declared.board.Board.{Board}
-use Rattle.boards.specs.Faults.{OpenFault}
+use Rattle.boards.specs.declared.opening.Plan.{Plan}
+use Rattle.boards.specs.Faults.{OpenFault, planned}
 use Rattle.boards.specs.Course.{Led}
 
 module _ {R S : Type 0} (w : ℕ) (read : S → ℕ → ℕ) (acts : Acts R S) where
@@ -35,14 +35,14 @@ module _ {R S : Type 0} (w : ℕ) (read : S → ℕ → ℕ) (acts : Acts R S) w
   ServedBy o l before after d zs (Ok x) = (s : Served o l before after d zs) × (s.unentered ≡ [])
   ServedBy o l before after d zs (Err f) = Served o l before after d zs
 
-  -- r is the rule, xs the records, n the count of jobs and row the line that are handed in; zs are the records afterwards
-  module _ (r : R) (xs : List (Job S)) (n : ℕ) (row : List ℕ) (benches : ℕ) (floor : S) (zs : List (Job S)) where
+  -- r is the rule, xs the records and plan what is to be opened; zs are the records afterwards
+  module _ (r : R) (xs : List (Job S)) (plan : Plan S) (zs : List (Job S)) where
     abbrev pub Opens : Type 0
-    Opens = (e : Refusal) → OpenFault w read acts r xs n row benches floor e → ⊥
+    Opens = (e : Refusal) → OpenFault w read acts r xs plan e → ⊥
 
     -- the opening is refused, and nothing has changed
     pub record NotOpened (e : Refusal) : Type 0 where
-      pub first : First (OpenFault w read acts r xs n row benches floor) e
+      pub first : First (OpenFault w read acts r xs plan) e
       pub same : zs ≡ xs
 
     -- The board was opened, and the calls that the desk entered in its journal were carried out, with the answers that it was told.
@@ -52,15 +52,15 @@ module _ {R S : Type 0} (w : ℕ) (read : S → ℕ → ℕ) (acts : Acts R S) w
       pub unentered : List (Event S)
       pub few : length unentered ≤ 1
       pub journaled : after ≡ before ++ events
-      pub carried : CarriedOut (opened_with read xs n benches floor) (events ++ unentered) zs
+      pub carried : CarriedOut (planned read xs plan) (events ++ unentered) zs
 
     -- the same where the desk did not fail: every call is in the journal, and these are their counts
     pub record WholeShift (before after : List (Event S)) (t : Tally) : Type 0 where
       pub opens : Opens
       pub events : List (Event S)
       pub journaled : after ≡ before ++ events
-      pub carried : CarriedOut (opened_with read xs n benches floor) events zs
-      pub tallied : Tallied (opened_with read xs n benches floor) events t
+      pub carried : CarriedOut (planned read xs plan) events zs
+      pub tallied : Tallied (planned read xs plan) events t
 
     abbrev pub ShiftTold : {F : Type 0} → List (Event S) → List (Event S) → Result (Result Tally Refusal) F → Type 0
     ShiftTold before after (Ok (Ok t)) = WholeShift before after t
@@ -68,11 +68,11 @@ module _ {R S : Type 0} (w : ℕ) (read : S → ℕ → ℕ) (acts : Acts R S) w
     ShiftTold before after (Err f) = Shift before after
 
     -- the board was opened, and the calls of the list were carried out, as many as have answers
-    pub record Answered (calls : List Call) (answers : List (Answer S)) : Type 0 where
+    pub record Answered (calls : List Call) (answers : List (Result (Answer S) Refusal)) : Type 0 where
       pub opens : Opens
-      pub carried : CarriedOut (opened_with read xs n benches floor) (paired calls answers) zs
+      pub carried : CarriedOut (planned read xs plan) (paired calls answers) zs
 
-    abbrev pub CallsTold : {A F : Type 0} → List Call → Result (Result (Vec (Answer S) A) Refusal) F → Type 0
+    abbrev pub CallsTold : {A F : Type 0} → List Call → Result (Result (Vec (Result (Answer S) Refusal) A) Refusal) F → Type 0
     CallsTold calls (Ok (Ok v)) = (length (vec_items v) ≡ length calls) × Answered calls (vec_items v)
     CallsTold calls (Ok (Err e)) = NotOpened e
-    CallsTold calls (Err f) = (answers : List (Answer S)) × Answered calls answers
+    CallsTold calls (Err f) = (answers : List (Result (Answer S) Refusal)) × Answered calls answers

@@ -3,6 +3,7 @@ ghost use Rattle.logs.specs.Logs.{Event, event};
 ghost use Rattle.shifts.specs.Journals.{Noted};
 
 use logs::{Answer, Call};
+use refusals::Refusal;
 
 /// Hands in calls one at a time and takes their answers.
 pub trait Desk<K> {
@@ -17,6 +18,6 @@ pub trait Desk<K> {
         ensures { journal self.new ≡ journal self.old };
 
     /// Takes the answer to a call.
-    fn take(&mut self, call: Call, answer: &Answer<K>) -> Result<(), Self::Fault>
+    fn take(&mut self, call: Call, answer: &Result<Answer<K>, Refusal>) -> Result<(), Self::Fault>
         ensures { Noted (journal self.old) (journal self.new) (event call answer.now) result };
 }

@@ -6,7 +6,7 @@ ghost use Rattle.shifts.specs.Shifts.{ServedBy, ShiftTold, CallsTold};
 
 use super::desk::Desk;
 use amounts::Amount;
-use boards::Board;
+use boards::{Board, Plan};
 use jobs::Job;
 use logs::{Answer, Call, Tally};
 use refusals::Refusal;
@@ -32,27 +32,21 @@ fn serve<K: Amount, R: Rule<K>, D: Desk<K>>(
     Ok(())
 }
 
-/// Opens a board under the rule and carries out the desk's calls. The tree is that of the jobs 1 to
-/// `n`, with this line.
+/// Opens a board under the rule and carries out the desk's calls.
 pub fn run_shift<K: Amount, R: Rule<K> + Drop, D: Desk<K>>(
     rule: R,
     jobs: &mut [Job<K>],
-    n: usize,
-    line: &[u32],
-    benches: usize,
-    floor: &K,
+    plan: &Plan<K>,
     desk: &mut D,
 ) -> Result<Result<Tally, Refusal>, D::Fault>
-    ensures { ShiftTold K.Amount.width K.Amount.reading R.Rule.acts rule jobs.old n line.now benches floor.now jobs.new (D.Desk.journal desk.old) (D.Desk.journal desk.new) result }
+    ensures { ShiftTold K.Amount.width K.Amount.reading R.Rule.acts rule jobs.old plan.now jobs.new (D.Desk.journal desk.old) (D.Desk.journal desk.new) result }
 {
     let mut board = Board::new(rule);
-    match board.open(jobs, n, line, benches, floor) {
-        Ok(()) => {
-            serve(&mut board, jobs, desk)?;
-            Ok(Ok(board.tally()))
-        }
-        Err(refusal) => Ok(Err(refusal)),
+    if let Err(refusal) = board.open(jobs, plan) {
+        return Ok(Err(refusal));
     }
+    serve(&mut board, jobs, desk)?;
+    Ok(Ok(board.tally()))
 }
 
 /// Opens a board under the rule and carries out the calls of a list. An answer for each.
@@ -60,24 +54,18 @@ pub fn run_calls<K: Amount, R: Rule<K> + Drop>(
     heap: Global,
     rule: R,
     jobs: &mut [Job<K>],
-    n: usize,
-    line: &[u32],
-    benches: usize,
-    floor: &K,
+    plan: &Plan<K>,
     calls: &[Call],
-) -> Result<Result<Vec<Answer<K>>, Refusal>, AllocError>
-    ensures { CallsTold K.Amount.width K.Amount.reading R.Rule.acts rule jobs.old n line.now benches floor.now jobs.new calls.now result }
+) -> Result<Result<Vec<Result<Answer<K>, Refusal>>, Refusal>, AllocError>
+    ensures { CallsTold K.Amount.width K.Amount.reading R.Rule.acts rule jobs.old plan.now jobs.new calls.now result }
 {
     let mut board = Board::new(rule);
-    match board.open(jobs, n, line, benches, floor) {
-        Ok(()) => {
-            let mut answers = Vec::new(heap);
-            for call in calls {
-                let answer = board.call(*call, jobs);
-                answers.push(answer)?;
-            }
-            Ok(Ok(answers))
-        }
-        Err(refusal) => Ok(Err(refusal)),
+    if let Err(refusal) = board.open(jobs, plan) {
+        return Ok(Err(refusal));
     }
+    let mut answers = Vec::new(heap);
+    for call in calls {
+        answers.push(board.call(*call, jobs))?;
+    }
+    Ok(Ok(answers))
 }

@@ -4,6 +4,7 @@ ghost use Rattle.terminals.specs.Entries.{event_of};
 
 use amounts::Places;
 use logs::{Answer, Call};
+use refusals::Refusal;
 use replies::{call_of, reply_line};
 use shifts::Desk;
 use std::io::{BufRead, BufReader, Stdin};
@@ -12,7 +13,7 @@ use std::io::{BufRead, BufReader, Stdin};
 #[derive(Clone, Copy)]
 pub struct Entry {
     pub call: Call,
-    pub answer: Answer<Places>,
+    pub answer: Result<Answer<Places>, Refusal>,
 }
 
 /// The desk at the terminal: calls are typed on standard input, one a line, and answered on
@@ -78,7 +79,7 @@ impl<'a> Desk<Places> for Terminal<'a> {
         Ok(None)
     }
 
-    fn take(&mut self, call: Call, answer: &Answer<Places>) -> anyhow::Result<()> {
+    fn take(&mut self, call: Call, answer: &Result<Answer<Places>, Refusal>) -> anyhow::Result<()> {
         self.entries.push(Entry {
             call,
             answer: *answer,

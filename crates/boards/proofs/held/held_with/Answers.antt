@@ -1,4 +1,4 @@
-use Rattle.std.proofs.Common.{◌≡◌, ℕ, ◌+◌, ◌<◌, List, length, get_or, Some, None, Option, sym, ◌∙◌, inl, inr, arith}
+use Rattle.std.proofs.Common.{◌≡◌, ℕ, ◌+◌, ◌<◌, List, length, get_or, Some, None, Option, sym, ◌∙◌, arith}
 use Rattle.amounts.specs.Axes.{most, Sum}
 use Rattle.trees.specs.Sums.{In}
 use Rattle.jobs.specs.declared.Job.{Job}
@@ -19,25 +19,21 @@ module _ {S : Type 0} (w : ℕ) (read : S → ℕ → ℕ) (xs : List (Job S)) (
   with_output half sums (Some y) total =
       (job, inside, λ a. omega (arith, total a, sums a, at_read (λ j. read j.work a) xs j x inside is, at_read (λ j. read j.output a) xs j x inside is))
 
-pub returns-then-job-eq0 : goal.returns-then-job-eq0
-returns-then-job-eq0 g c bear =
-    elim c.then-job-eq0.either [
-      | inl none ↦ omega (arith, bear.job)
-      | inr r ↦ elim r [ inl many ↦ omega (arith, bear.job, many.1) | inr short ↦ omega (arith, bear.record_there, short.2) ]
-    ]
-
 pub returns-in_default : goal.returns-in_default
 returns-in_default g c bear =
-    let job = c.index-jobs-job in
-    c.in_default.not-Waiting (sym (state_read c.args.jobs.now c.args.job job.result (omega arith) job.is Done) ∙ bear.waits)
+    let job = c.in_ok-record.record.now in
+    let its = c.in_ok-record.ensures.lookup in
+    c.in_default.not-Waiting (sym (state_read c.args.jobs.now c.args.job job its.3.0 its.1 Done) ∙ bear.waits)
 
 pub returns-in_err-sum : goal.returns-in_err-sum
 returns-in_err-sum g c =
-    let job = c.index-jobs-job in
+    let job = c.in_ok-record.record.now in
+    let its = c.in_ok-record.ensures.lookup in
     let over = c.in_err-sum.ensures in
-    rw c.from_residual.ensures (no_work g.K.Amount.width g.K.Amount.reading c.args.jobs.now c.args.job c.args.held.now job.result (omega arith, omega arith) (omega arith) job.is over.0 over.1)
+    rw c.from_residual-in_err-sum.ensures (no_work g.K.Amount.width g.K.Amount.reading c.args.jobs.now c.args.job c.args.held.now job (omega arith, omega arith) its.3.0 its.1 over.0 over.1)
 
 pub returns : goal.returns
 returns g c =
-    let job = c.index-jobs-job in
-    with_output g.K.Amount.width g.K.Amount.reading c.args.jobs.now c.args.job c.args.held.now job.result (omega arith, omega arith) (omega arith) job.is _ c.in_ok-sum.ensures c.sum-2.result c.sum-2.ensures
+    let job = c.in_ok-record.record.now in
+    let its = c.in_ok-record.ensures.lookup in
+    with_output g.K.Amount.width g.K.Amount.reading c.args.jobs.now c.args.job c.args.held.now job (omega arith, omega arith) its.3.0 its.1 _ c.in_ok-sum.ensures c.sum-2.result c.sum-2.ensures

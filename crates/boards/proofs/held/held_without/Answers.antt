@@ -14,15 +14,17 @@ without_back w read xs j held b back inside gives (Some x) rest = (inside, λ n 
 
 pub returns-in_default : goal.returns-in_default
 returns-in_default g c n e =
-    let job = c.index-jobs-job in
-    c.in_default.not-Running c.args.bench (sym (state_read c.args.jobs.now c.args.job job.result (omega arith) job.is Done) ∙ e.runs)
+    let job = c.in_ok-record.record.now in
+    let its = c.in_ok-record.ensures.lookup in
+    c.in_default.not-Running c.args.bench (sym (state_read c.args.jobs.now c.args.job job its.3.0 its.1 Done) ∙ e.runs)
 
 pub returns-then-at-bench : goal.returns-then-at-bench
 returns-then-at-bench g c n e =
-    let job = c.index-jobs-job in
-    let runs : Running c.in-Running.at ≡ Running c.args.bench = sym c.in-Running.is ∙ sym (state_read c.args.jobs.now c.args.job job.result (omega arith) job.is Done) ∙ e.runs in
+    let job = c.in_ok-record.record.now in
+    let its = c.in_ok-record.ensures.lookup in
+    let runs : Running c.in-Running.at ≡ Running c.args.bench = sym c.in-Running.is ∙ sym (state_read c.args.jobs.now c.args.job job its.3.0 its.1 Done) ∙ e.runs in
     c.if-at-bench.true (cc)
 
 pub returns : goal.returns
 returns g c =
-    without_back g.K.Amount.width g.K.Amount.reading c.args.jobs.now c.args.job c.args.held.now c.args.bench c.in_ok-back.back (omega arith) c.in_ok-back.ensures c.difference.result c.difference.ensures
+    without_back g.K.Amount.width g.K.Amount.reading c.args.jobs.now c.args.job c.args.held.now c.args.bench c.in_ok-back.back c.in_ok-record.ensures.lookup.3.0 c.in_ok-back.ensures c.difference.result c.difference.ensures

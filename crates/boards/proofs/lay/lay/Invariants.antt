@@ -5,4 +5,4 @@ use Rattle.boards.proofs.lay.lay.Given as goal
 abbrev pub invariant-loop-i : goal.invariant-loop-i
 invariant-loop-i g l =
     (1 ≤ l.i)
-    × Readied (l.i - 1) (λ k. get_or l.first k 0) (λ k. get_or l.next k 0) (λ k. get_or l.places k 0) l.initial.jobs l.jobs
+    × Readied (l.i - 1) (λ k. get_or l.survey.chains.first k 0) (λ k. get_or l.survey.chains.next k 0) (λ k. get_or l.survey.places k 0) l.initial.jobs l.jobs

@@ -1,52 +1,58 @@
-use Rattle.std.proofs.Common.{◌<◌, ◌≤◌, length, sym, ◌∙◌, arith}
-use Rattle.std.proofs.lemmas.Bool.{eq-eqb}
+use Rattle.std.proofs.Common.{sym, ◌∙◌, subst, Some, None}
 use Rattle.intake.specs.Faults.{par_of}
 use Rattle.logs.proofs.Tallies.{startable_true, startable_from}
+use Rattle.rules.specs.Children.{Gives}
 use Rattle.rules.specs.Records.{state_in}
-use Rattle.rules.proofs.Walking.{Turn, state_read, false_unless, turn_child, comes_first, comes_last, comes_next, done_none, done_next, done_all}
-use Rattle.rules.proofs.kin.startable.Given as given
+use Rattle.rules.proofs.Walking.{state_read, false_unless, walks_first, done_first, never_breaks, turn_of, walks_next, turn_child, done_next, done_all}
 use Rattle.rules.proofs.kin.startable.Goals as goal
-use Rattle.rules.proofs.kin.startable.Goals.{After-index-jobs-child}
-
-pub returns-in_default : goal.returns-in_default
-returns-in_default g c = λ n tree own.
-    let jobs = c.args.jobs.now in
-    let job = c.args.job in
-    let parent = c.index-jobs-job in
-    let stands = state_read jobs n job parent.result own c.if-job-jobs.false parent.is in
-    false_unless _ (λ e. c.in_default.not-Waiting (sym stands ∙ (startable_true n (par_of jobs n) (state_in n jobs) job e).0))
-
-pub loop-last-init : goal.loop-last-init
-loop-last-init g c =
-    let read = g.K.Amount.reading in
-    let w = g.K.Amount.width in
-    let jobs = c.args.jobs.now in
-    let job = c.args.job in
-    let parent = c.index-jobs-job in
-    (comes_first w read jobs job parent.result c.if-job-jobs.false parent.is, done_none w read jobs job)
-
-turn : (g : given.Over) (c : After-index-jobs-child g) → Turn g.K.Amount.width g.K.Amount.reading c.args.jobs.now c.args.job c.loop-last.last c.loop-last.child c.index-jobs-child.result
-turn g c =
-    record {
-      comes = c.loop-last.invariant.0;
-      rises = c.loop-last-test.true;
-      inside = c.if-child-jobs.true;
-      is = c.index-jobs-child.is;
-    }
 
 pub returns-in_default-state : goal.returns-in_default-state
 returns-in_default-state g c = λ n tree own.
     let jobs = c.args.jobs.now in
-    let child = c.loop-last.child in
-    let t = turn g (goal.at.returns-in_default-state g c).After-index-jobs-child in
-    let its = turn_child t n tree own in
-    let stands = state_read jobs n child c.index-jobs-child.result its.0 t.inside t.is in
-    false_unless _ (λ e. c.in_default-state.not-Done (sym stands ∙ (startable_true n (par_of jobs n) (state_in n jobs) c.args.job e).1 child its.0 its.1))
+    let its = c.in-Some.ensures.lookup in
+    let stands = state_read jobs n c.args.job c.in-Some.record.now own its.3.0 its.1 in
+    false_unless _ (λ e. c.in_default-state.not-Waiting (sym stands ∙ (startable_true n (par_of jobs n) (state_in n jobs) c.args.job e).0))
 
-pub loop-last-preserved : goal.loop-last-preserved
-loop-last-preserved g c =
-    let t = turn g (goal.at.loop-last-preserved g c).After-index-jobs-child in
-    (comes_next t, done_next t c.in-Done.is c.loop-last.invariant.1)
+pub loop-child-init : goal.loop-child-init
+loop-child-init g c =
+    let read = g.K.Amount.reading in
+    let w = g.K.Amount.width in
+    let job = c.args.job in
+    let walk = c.of-child-items.result in
+    let begins = c.of-child-items.ensures in
+    let own = c.in-Some.record.now in
+    let its = c.in-Some.ensures.lookup in
+    rw c.into_iter-child-iterator.ensures.into_iter_gives (
+      walks_first w read c.args.jobs.now job walk own its.3.0 its.1 begins.lent begins.first.0 begins.first.1,
+      done_first w read c.args.jobs.now job walk own its.3.0 its.1 begins.lent begins.first.0 begins.first.1,
+    )
+
+pub returns-in_default-child : goal.returns-in_default-child
+returns-in_default-child g c = λ n tree own.
+    let s = c.loop-child.child-iterator in
+    let gives : Gives s (Some None) c.next.new.self = subst (λ i. Gives s (Some i) c.next.new.self) c.in_default-child.is c.in-Some-child.ensures.steps in
+    absurd (never_breaks g.K.Amount.width g.K.Amount.reading c.args.jobs.now c.args.job s c.loop-child.invariant.0 gives n tree own)
+
+pub returns-in_default-state-2 : goal.returns-in_default-state-2
+returns-in_default-state-2 g c = λ n tree own.
+    let jobs = c.args.jobs.now in
+    let s = c.loop-child.child-iterator in
+    let r = c.in-Some-child-2.child in
+    let t = c.next.new.self in
+    let gives : Gives s (Some (Some r)) t = subst (λ i. Gives s (Some i) t) c.in-Some-child-2.is c.in-Some-child.ensures.steps in
+    let turn = turn_of c.loop-child.invariant.0 r t gives in
+    let its = turn_child turn n tree own in
+    let stands = state_read jobs n s.next r.now its.0 turn.inside turn.is in
+    false_unless _ (λ e. c.in_default-state-2.not-Done (sym stands ∙ (startable_true n (par_of jobs n) (state_in n jobs) c.args.job e).1 s.next its.0 its.1))
+
+pub loop-child-preserved : goal.loop-child-preserved
+loop-child-preserved g c =
+    let s = c.loop-child.child-iterator in
+    let r = c.in-Some-child-2.child in
+    let t = c.next.new.self in
+    let gives : Gives s (Some (Some r)) t = subst (λ i. Gives s (Some i) t) c.in-Some-child-2.is c.in-Some-child.ensures.steps in
+    let turn = turn_of c.loop-child.invariant.0 r t gives in
+    (walks_next c.loop-child.invariant.0 r t gives, rw gives.4 (done_next turn c.in-Done.is c.loop-child.invariant.1))
 
 pub returns : goal.returns
 returns g c = λ n tree own.
@@ -54,10 +60,8 @@ returns g c = λ n tree own.
     let w = g.K.Amount.width in
     let jobs = c.args.jobs.now in
     let job = c.args.job in
-    let here = c.loop-last in
-    let parent = c.index-jobs-job in
-    let stops : here.last < here.child → length jobs ≤ here.child = λ h. omega arith in
-    let end = comes_last w read jobs job here.last here.child here.invariant.0 stops n tree own in
-    let waits = state_read jobs n job parent.result own c.if-job-jobs.false parent.is ∙ c.in-Waiting.is in
-    let done = done_all w read jobs job here.last here.child here.invariant.0 here.invariant.1 end n tree own in
-    eq-eqb here.child 0 end ∙ sym (startable_from n (par_of jobs n) (state_in n jobs) job waits done)
+    let s = c.loop-child.child-iterator in
+    let its = c.in-Some.ensures.lookup in
+    let waits = state_read jobs n job c.in-Some.record.now own its.3.0 its.1 ∙ c.in-Waiting.is in
+    let done = done_all w read jobs job s.last s.next c.loop-child.invariant.0.comes c.loop-child.invariant.1 c.in-None.ensures.steps.0 n tree own in
+    sym (startable_from n (par_of jobs n) (state_in n jobs) job waits done)

@@ -1,12 +1,7 @@
-use Rattle.std.proofs.Common.{◌-◌, length}
-use Rattle.rules.proofs.Walking.{Comes, DoneTo}
+use Rattle.rules.proofs.Walking.{Walks, DoneTo}
 use Rattle.rules.proofs.kin.startable.Given as goal
 
-abbrev pub invariant-loop-last : goal.invariant-loop-last
-invariant-loop-last g l =
-    let read = g.K.Amount.reading in
-    let w = g.K.Amount.width in
-    Comes w read l.jobs l.job l.last l.child × DoneTo w read l.jobs l.job l.last
-
-abbrev pub decreases-loop-last : goal.decreases-loop-last
-decreases-loop-last g l = length l.jobs - l.last
+abbrev pub invariant-loop-child : goal.invariant-loop-child
+invariant-loop-child g l =
+    Walks g.K.Amount.width g.K.Amount.reading l.jobs l.job l.child-iterator
+    × DoneTo g.K.Amount.width g.K.Amount.reading l.jobs l.job l.child-iterator.last

@@ -17,12 +17,12 @@ returns-then-job-eq0 g c =
           (ask_outside c.args.job (λ i. elim c.then-job-eq0.branch [ then-job-eq0-via-then-job-eq0 v ↦ omega (arith, i.0, v.if-job-eq0.true) | then-job-eq0-via-else-job-eq0+then-job-self v ↦ omega (arith, i.1, v.if-job-self.true) ]));
     }
 
-pub returns-then-job-jobs : goal.returns-then-job-jobs
-returns-then-job-jobs g c =
+pub returns-in_default : goal.returns-in_default
+returns-in_default g c =
     record {
       outside = λ h. absurd (h (omega arith, omega arith));
       listed = altered;
-      follows = λ o l led. absurd (omega (arith, job_there g.met.R.Rule.safe g.met.R.Rule.willing c.args.self.now led c.args.job (omega arith, omega arith)));
+      follows = λ o l led. absurd (omega (arith, c.in_default.ensures.lookup.3, job_there g.met.R.Rule.safe g.met.R.Rule.willing c.args.self.now led c.args.job (omega arith, omega arith)));
     }
 
 pub returns : goal.returns
@@ -31,5 +31,5 @@ returns g c =
       outside = λ h. absurd (h (omega arith, omega arith));
       listed = tt;
       follows = λ o l led.
-          told g.met.R.Rule.safe g.met.R.Rule.willing c.args.self.now led c.args.job c.index-jobs-job.result c.tally-counts.result (omega arith, omega arith) c.index-jobs-job.is c.tally-counts.ensures.counts;
+          told g.met.R.Rule.safe g.met.R.Rule.willing c.args.self.now led c.args.job c.in-Some.record.now c.tally.result (omega arith, omega arith) c.in-Some.ensures.lookup.1 c.tally.ensures.counts;
     }

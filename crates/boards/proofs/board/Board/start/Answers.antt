@@ -1,4 +1,5 @@
 use Rattle.std.proofs.Common.{get_or, None, sym, refl, ap, ◌∙◌, arith}
+use Rattle.std.proofs.lemmas.Result.{err_from_is_err_and}
 use Rattle.refusals.specs.declared.Refusal.TheVariants.{BenchUnknown, BenchBusy, NoneNamed}
 use Rattle.logs.specs.declared.call.Call.TheVariants.{Start}
 use Rattle.boards.specs.Course.Refuses.{start_outside, start_busy, start_none_named}
@@ -6,20 +7,24 @@ use Rattle.boards.specs.Listed.StartListed.{outside, busy, all_started, none_nam
 use Rattle.boards.proofs.Answering.{some_from, none_from, seat_at, reached, refused, few_benches, none_left, named_runs, started}
 use Rattle.boards.proofs.board.Board.start.Goals as goal
 
-pub returns-in_default : goal.returns-in_default
-returns-in_default g c =
+pub returns-in_err-place : goal.returns-in_err-place
+returns-in_err-place g c =
+    let p = err_from_is_err_and c.from_residual.result c.from_residual.ensures.1 in
+    let out = c.in_err-place.ensures in
+    rw (p.1, p.2, out.0) (
     record {
       outside = λ h. refl;
       listed = outside;
       still = (refl, refl);
       follows = λ o l led.
           let few = few_benches g.met.R.Rule.safe g.met.R.Rule.willing c.args.self.now led in
-          refused g.met.R.Rule.safe g.met.R.Rule.willing c.args.self.now led (Start c.args.bench) BenchUnknown (start_outside c.args.bench (λ i. c.in_default.ensures i (omega arith)));
+          refused g.met.R.Rule.safe g.met.R.Rule.willing c.args.self.now led (Start c.args.bench) BenchUnknown (start_outside c.args.bench (λ i. out.1 i (omega arith)));
     }
+    )
 
 pub returns-then-is_some : goal.returns-then-is_some
 returns-then-is_some g c =
-    let at = c.in-Some.ensures in
+    let at = c.in_ok-place.ensures in
     record {
       outside = λ h. absurd (h at.1);
       listed = busy;
@@ -31,7 +36,7 @@ returns-then-is_some g c =
 
 pub returns-then-self : goal.returns-then-self
 returns-then-self g c =
-    let at = c.in-Some.ensures in
+    let at = c.in_ok-place.ensures in
     record {
       outside = λ h. absurd (h at.1);
       listed = all_started;
@@ -40,41 +45,41 @@ returns-then-self g c =
           none_left g.met.R.Rule.safe g.met.R.Rule.willing c.args.self.now led c.args.bench at.1 (ap (λ p. get_or c.args.self.now.hall.table p None) (sym at.0) ∙ none_from _ c.if-is_some.ensures) c.if-self.true;
     }
 
-pub returns-in_default-name : goal.returns-in_default-name
-returns-in_default-name g c =
-    let at = c.in-Some.ensures in
+pub returns-in_default : goal.returns-in_default
+returns-in_default g c =
+    let at = c.in_ok-place.ensures in
     record {
       outside = λ h. absurd (h at.1);
       listed = none_named;
       still = (refl, refl);
       follows = λ o l led.
           refused g.met.R.Rule.safe g.met.R.Rule.willing c.args.self.now led (Start c.args.bench) (NoneNamed c.args.bench)
-          (start_none_named c.args.bench at.1 (ap (λ p. get_or c.args.self.now.hall.table p None) (sym at.0) ∙ none_from _ c.if-is_some.ensures) c.if-self.false (sym (c.in_default-name.ensures (reached g.met.R.Rule.safe g.met.R.Rule.willing c.args.self.now led))));
+          (start_none_named c.args.bench at.1 (ap (λ p. get_or c.args.self.now.hall.table p None) (sym at.0) ∙ none_from _ c.if-is_some.ensures) c.if-self.false (sym (c.in_default.ensures (reached g.met.R.Rule.safe g.met.R.Rule.willing c.args.self.now led))));
     }
 
 pub returns-in_default-held_with : goal.returns-in_default-held_with
 returns-in_default-held_with g c =
-    let at = c.in-Some.ensures in
+    let at = c.in_ok-place.ensures in
     record {
       outside = λ h. absurd (h at.1);
       listed = altered;
       still = (refl, refl);
       follows = λ o l led.
-          let named = c.in-Some-name.ensures (reached g.met.R.Rule.safe g.met.R.Rule.willing c.args.self.now led) in
-          absurd (c.in_default-held_with.ensures (named_runs g.met.R.Rule.safe g.met.R.Rule.willing c.args.self.now led g.met.K.Amount.bounded c.in-Some-name.job (sym named)));
+          let named = c.in-Some.ensures (reached g.met.R.Rule.safe g.met.R.Rule.willing c.args.self.now led) in
+          absurd (c.in_default-held_with.ensures (named_runs g.met.R.Rule.safe g.met.R.Rule.willing c.args.self.now led g.met.K.Amount.bounded c.in-Some.job (sym named)));
     }
 
 pub returns : goal.returns
 returns g c =
-    let at = c.in-Some.ensures in
+    let at = c.in_ok-place.ensures in
     record {
       outside = λ h. absurd (h at.1);
       listed = tt;
       still = tt;
       follows = λ o l led.
-          let named = c.in-Some-name.ensures (reached g.met.R.Rule.safe g.met.R.Rule.willing c.args.self.now led) in
+          let named = c.in-Some.ensures (reached g.met.R.Rule.safe g.met.R.Rule.willing c.args.self.now led) in
           let held = c.in-Some-held_with.ensures in
-          started g.met.R.Rule.safe g.met.R.Rule.willing c.args.self.now led c.args.bench c.in-Some-name.job c.in-Some-held_with.held at.1 _ c.restate.new.jobs c.started.new.jobs c.started.new.self
+          started g.met.R.Rule.safe g.met.R.Rule.willing c.args.self.now led c.args.bench c.in-Some.job c.in-Some-held_with.held at.1 _ c.restate.new.jobs c.started.new.jobs c.started.new.self
           (ap (λ p. get_or c.args.self.now.hall.table p None) (sym at.0) ∙ none_from _ c.if-is_some.ensures) (sym named) held.2
-          (seat_at c.args.self.now.hall c.in-Some.place c.args.bench c.in-Some-name.job c.in-Some-held_with.held at.0) c.restate.ensures c.started.ensures.told c.started.ensures.kept;
+          (seat_at c.args.self.now.hall c.in_ok-place.place c.args.bench c.in-Some.job c.in-Some-held_with.held at.0) c.restate.ensures c.started.ensures.told c.started.ensures.kept;
     }

@@ -2,21 +2,21 @@ ghost use Rattle.std.specs.Prelude.{◌≡◌, codes};
 ghost use Rattle.hall.specs.Commands.{Asked};
 
 /// What the first word asks for.
-#[derive(Clone, Copy)]
+#[derive(Clone, Copy, Debug, PartialEq, Eq)]
 pub enum Command {
     Check,
     Help,
     Version,
-    Unknown,
 }
 
-pub fn command_of(word: &str) -> Command
+/// The command that the word asks for; none where no command has that word.
+pub fn command_of(word: &str) -> Option<Command>
     ensures { Asked word.now result }
 {
     match word {
-        "check" => Command::Check,
-        "--help" => Command::Help,
-        "--version" => Command::Version,
-        _ => Command::Unknown,
+        "check" => Some(Command::Check),
+        "--help" => Some(Command::Help),
+        "--version" => Some(Command::Version),
+        _ => None,
     }
 }

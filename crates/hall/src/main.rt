@@ -2,13 +2,14 @@
 #![tactic(auto)]
 
 mod command;
+mod trouble;
 
 use amounts::Places;
-use anyhow::anyhow;
 use command::{Command, command_of};
 use std::io::Read;
 use std::process::ExitCode;
 use std::{env, fs};
+use trouble::Trouble;
 use verdicts::{answer_line, check_text};
 
 const HELP: &str = "hall: checks assembly runs against the places of a hall
@@ -25,66 +26,55 @@ docs/REFUSALS.md lists the numbers, docs/TEXT.md the form of a run.";
 const VERSION: &str = "hall 0.1.0
 proved with rattle-kit-13f logic dac8208d650f15bf";
 
-/// The bytes of the file, or of standard input where no file is named; none where the file cannot
-/// be read, which is told.
-fn bytes_of(rt: &HostRuntime, file: Option<String>) -> anyhow::Result<Option<Vec<u8>>> {
+/// The bytes of the file, or of standard input where no file is named.
+fn bytes_of(rt: &HostRuntime, file: Option<String>) -> Result<Vec<u8>, Trouble> {
     match file {
-        Some(path) => match fs::read(rt, path.as_str()) {
-            Ok(bytes) => Ok(Some(bytes)),
-            Err(e) => {
-                eprintln!(rt; "hall: cannot read {path}: {e}")?;
-                Ok(None)
-            }
-        },
+        Some(path) => {
+            fs::read(rt, path.as_str()).map_err(|why| Trouble::Unreadable { path, why })
+        }
         None => {
             let mut bytes = Vec::new(rt.alloc());
             rt.stdin().read_to_end(&mut bytes)?;
-            Ok(Some(bytes))
+            Ok(bytes)
         }
     }
 }
 
-/// Prints the answer to a run; whether the hall can carry it.
-fn check(rt: &HostRuntime, file: Option<String>) -> anyhow::Result<bool> {
+/// Prints the answer to a run; a refusal is an answer too, and told by the status beside.
+fn check(rt: &HostRuntime, file: Option<String>) -> Result<ExitCode, Trouble> {
     let heap = rt.alloc();
-    let Some(bytes) = bytes_of(rt, file)? else {
-        return Ok(false);
-    };
+    let bytes = bytes_of(rt, file)?;
     let answer = check_text::<Places>(heap, &bytes)?;
     print!(rt; "{}", answer_line(heap, &answer)?)?;
-    Ok(answer.is_ok())
+    Ok(match answer {
+        Ok(_) => ExitCode::SUCCESS,
+        Err(_) => ExitCode::FAILURE,
+    })
 }
 
-/// Carries out what the words ask for; false where the answer is a refusal, or where something was
-/// in the way and is told.
-fn run(rt: &HostRuntime) -> anyhow::Result<bool> {
+/// Carries out what the words ask for.
+fn run(rt: &HostRuntime) -> Result<ExitCode, Trouble> {
     let mut words = env::args(rt)?.skip(1);
-    let Some(first) = words.next() else {
-        return Err(anyhow!("no command: see 'hall --help'"));
-    };
+    let first = words.next().ok_or(Trouble::NoCommand)?;
     let file = words.next();
     if words.next().is_some() {
-        return Err(anyhow!("too many words: see 'hall --help'"));
+        return Err(Trouble::TooManyWords);
     }
     match command_of(first.as_str()) {
-        Command::Check => return check(rt, file),
-        Command::Help => println!(rt; "{HELP}")?,
-        Command::Version => println!(rt; "{VERSION}")?,
-        Command::Unknown => {
-            eprintln!(rt; "hall: unknown command '{first}': see 'hall --help'")?;
-            return Ok(false);
-        }
+        Some(Command::Check) => return check(rt, file),
+        Some(Command::Help) => println!(rt; "{HELP}")?,
+        Some(Command::Version) => println!(rt; "{VERSION}")?,
+        None => return Err(Trouble::UnknownCommand(first)),
     }
-    Ok(true)
+    Ok(ExitCode::SUCCESS)
 }
 
 fn main(rt: HostRuntime) -> ExitCode {
     match run(&rt) {
-        Ok(true) => ExitCode::SUCCESS,
-        Ok(false) => ExitCode::FAILURE,
-        Err(e) => {
+        Ok(status) => status,
+        Err(trouble) => {
             // where standard error cannot be written, the status alone tells it
-            let _ = eprintln!(rt; "hall: {e}");
+            let _ = eprintln!(rt; "hall: {trouble}");
             ExitCode::FAILURE
         }
     }

@@ -1,7 +1,6 @@
 -- How many lines a text has.
-use Rattle.std.proofs.Common.{◌≡◌, ℕ, ◌+◌, ◌<◌, ◌≤◌, false, cond, eqb, ◌⊎◌, List, [], ◌∷◌, ◌++◌, length, take, drop, sym, refl, ap, ◌∙◌, inl, inr, append_assoc, arith}
+use Rattle.std.proofs.Common.{◌≡◌, ℕ, ◌+◌, ◌<◌, false, cond, eqb, ◌⊎◌, List, [], ◌∷◌, ◌++◌, length, sym, refl, ap, ◌∙◌, inl, inr, append_assoc, arith}
 use Rattle.std.specs.Int.Digits.{digits_of}
-use Rattle.std.proofs.lemmas.List.{take-append-drop}
 use Rattle.std.proofs.lemmas.Bool.{cases_eq}
 use Rattle.std.proofs.lemmas.Bool.Decides.{nat_tests}
 use Rattle.prints.specs.Decimal.{decimal}
@@ -58,13 +57,12 @@ ends_text r l =
     let b = ends_decimal r.benches (marked 32 r.floor ++ (10 ∷ lines r.jobs)) in
     rw n (omega arith)
 
--- the text of a front has no more jobs
-pub front_jobs : (bs : List ℕ) (q : ℕ) (a b : Run) → Letter a.rule → Letter b.rule → take q bs ≡ text_of a → bs ≡ text_of b → length a.jobs ≤ length b.jobs
-front_jobs bs q a b ra rb ea eb =
-    let x = ap ends (sym (take-append-drop q bs)) ∙ ends_append (take q bs) (drop q bs) in
-    let y = ap ends ea ∙ ends_text a ra in
-    let z = ap ends eb ∙ ends_text b rb in
-    omega arith
+-- texts with as many jobs have as many lines
+pub no_more_lines : (a b : Run) (js : List JobLine) → Letter a.rule → Letter b.rule → text_of a ++ lines js ≡ text_of b → length a.jobs ≡ length b.jobs → js ≡ []
+no_more_lines a b [] ra rb e n = refl
+no_more_lines a b (j ∷ js) ra rb e n =
+    let all = ap ends (sym e) ∙ ends_append (text_of a) (lines (j ∷ js)) in
+    absurd (omega (arith, all, ends_text a ra, ends_text b rb, ends_lines (j ∷ js)))
 
 pub one_count : {ax m : ℕ} {bs : List ℕ} (b : Run) → Letter b.rule → bs ≡ text_of b → Counted ax bs m → m ≡ length b.jobs
 one_count {ax} {m} {bs} b l w a =

@@ -1,14 +1,19 @@
 -- An amount, axis by axis.
-use Rattle.std.proofs.Common.{◌≡◌, ℕ, zero, suc, ◌+◌, ◌-◌, ◌<◌, ◌≤◌, Bool, true, false, cond, eqb, List, [], ◌∷◌, ◌++◌, map, length, sym, refl, ap, ◌∙◌, append_assoc, append-nil, arith}
-use Rattle.std.specs.List.{range_with_len}
-use Rattle.std.proofs.lemmas.List.FromFn.{map-range_with_len_more}
+use Rattle.std.proofs.Common.{◌≡◌, ℕ, zero, suc, ◌+◌, ◌-◌, ◌<◌, ◌≤◌, Bool, true, false, cond, eqb, List, [], ◌∷◌, ◌++◌, map, length, sym, refl, ap, ◌∙◌, subst, append_assoc, append-nil, arith}
+use Rattle.std.specs.List.{range_with_len, AllByRecursion}
+use Rattle.std.proofs.ByRecursion.{All-push}
+use Rattle.amounts.specs.declared.amount.Amount.{Ghosts}
+use Rattle.refusals.specs.declared.Refusal.{Refusal}
+use Rattle.std.proofs.lemmas.List.FromFn.{map-range_with_len_more, length-map-range_with_len}
 use Rattle.std.proofs.lemmas.Bool.{eq-eqb, ne_eqb}
 use Rattle.amounts.specs.Axes.{Same, with_at}
 use Rattle.prints.specs.Decimal.{digit, decimal}
-use Rattle.prints.specs.Runs.{marked}
+use Rattle.prints.specs.Runs.{marked, AmountHeld}
 use Rattle.prints.specs.Parts.{Part, byte, number, Apart, amount_parts}
-use Rattle.texts.specs.Steps.{mark_of}
+use Rattle.texts.specs.Steps.{mark_of, Came, Stopped}
 use Rattle.texts.specs.Records.{front}
+use Rattle.texts.specs.declared.reader.Reader.{Reader}
+use Rattle.texts.proofs.Chain.{came_start, came_on, stopped_on}
 
 -- the byte before an axis
 pub mark_digit : (a : ℕ) → digit (mark_of a) ≡ false
@@ -63,3 +68,44 @@ front_more read x s k v one same =
 pub field_apart : (n m : ℕ) (rest k : List Part) → Apart (rest ++ k) → Apart ((amount_parts 32 n m ++ rest) ++ k)
 field_apart zero m rest k a = a
 field_apart (suc n) m rest k a = refl
+
+-- from r₀ on the reader has read the axes of the amount x below axis a
+module _ {X : Type 0} {kind : Ghosts X} (m : ℕ) (r₀ : Reader X kind) where
+  pub record Below (r : Reader X kind) (a : ℕ) (x : X) : Type 0 where
+    pub came : Came Apart r₀ r (amount_parts 32 kind.width m) (amount_parts (mark_of a) (kind.width + 1 - a) m) (marked 32 (front kind.reading (a - 1) x))
+    pub held : AllByRecursion (λ v. v ≤ m) (front kind.reading (a - 1) x)
+
+  pub below_first : (x : X) → Below r₀ 1 x
+  below_first x = record {
+    came = subst (λ l. Came Apart r₀ r₀ (amount_parts 32 kind.width m) l []) (sym (left_first kind.width m)) (came_start Apart r₀ (amount_parts 32 kind.width m));
+    held = tt;
+  }
+
+  module _ (r : Reader X kind) (a : ℕ) (x : X) (so : Below r a x) (one : 1 ≤ a) (le : a ≤ kind.width) (b : ℕ) (is : b ≡ mark_of a) where
+    here : Came Apart r₀ r (amount_parts 32 kind.width m) (byte b ∷ number m ∷ amount_parts (mark_of (a + 1)) (kind.width + 1 - (a + 1)) m) (marked 32 (front kind.reading (a - 1) x))
+    here = subst (λ l. Came Apart r₀ r (amount_parts 32 kind.width m) l (marked 32 (front kind.reading (a - 1) x))) (left_more kind.width a m one le ∙ ap (λ c. byte c ∷ number m ∷ amount_parts (mark_of (a + 1)) (kind.width + 1 - (a + 1)) m) (sym is)) so.came
+
+    apart : (k : List Part) → Apart k → Apart (amount_parts (mark_of (a + 1)) (kind.width + 1 - (a + 1)) m ++ k)
+    apart k f = left_apart (mark_of (a + 1)) _ m k (mark_digit (a + 1)) f
+
+    pub below_more : (r' : Reader X kind) (s : X) (v : ℕ) → Came Apart r r' (byte b ∷ number m ∷ []) [] (b ∷ decimal v) → v ≤ m → front kind.reading a s ≡ front kind.reading (a - 1) x ++ (v ∷ []) → Below r' (a + 1) s
+    below_more r' s v h small e =
+        let xs = front kind.reading (a - 1) x in
+        let back : a + 1 - 1 ≡ a = omega arith in
+        let now : front kind.reading (a + 1 - 1) s ≡ xs ++ (v ∷ []) = ap (λ i. front kind.reading i s) back ∙ e in
+        let size : length xs + 1 ≡ a = omega (arith, length-map-range_with_len (kind.reading x) 1 (a - 1)) in
+        let step = came_on (byte b ∷ number m ∷ []) (amount_parts (mark_of (a + 1)) (kind.width + 1 - (a + 1)) m) here Apart apart h in
+        record {
+          came = subst (λ l. Came Apart r₀ r' (amount_parts 32 kind.width m) (amount_parts (mark_of (a + 1)) (kind.width + 1 - (a + 1)) m) l) (ap (λ c. marked 32 xs ++ (c ∷ decimal v)) is ∙ sym (ap (marked 32) now ∙ marked_more xs a v size)) step;
+          held = subst (AllByRecursion (λ w. w ≤ m)) (sym now) (All-push (λ w. w ≤ m) xs v so.held small);
+        }
+
+    pub below_stopped : (r' : Reader X kind) (e : Refusal) → Stopped Apart r r' (byte b ∷ number m ∷ []) e → Stopped Apart r₀ r' (amount_parts 32 kind.width m) e
+    below_stopped r' e h = stopped_on (byte b ∷ number m ∷ []) (amount_parts (mark_of (a + 1)) (kind.width + 1 - (a + 1)) m) here Apart apart h
+
+  pub below_all : (r : Reader X kind) (x : X) → Below r (kind.width + 1) x → Came Apart r₀ r (amount_parts 32 kind.width m) [] (marked 32 (front kind.reading kind.width x)) × AmountHeld kind.width true m (front kind.reading kind.width x)
+  below_all r x so =
+      let back : kind.width + 1 - 1 ≡ kind.width = omega arith in (
+        subst (λ l. Came Apart r₀ r (amount_parts 32 kind.width m) l (marked 32 (front kind.reading kind.width x))) (left_none kind.width (kind.width + 1) m (omega arith)) (subst (λ i. Came Apart r₀ r (amount_parts 32 kind.width m) (amount_parts (mark_of (kind.width + 1)) (kind.width + 1 - (kind.width + 1)) m) (marked 32 (front kind.reading i x))) back so.came),
+        record { axes = length-map-range_with_len (kind.reading x) 1 kind.width; each = subst (λ i. AllByRecursion (λ v. v ≤ m) (front kind.reading i x)) back so.held },
+      )

@@ -1,15 +1,23 @@
--- One record more is written.
-use Rattle.std.proofs.Common.{◌≡◌, ℕ, ◌+◌, ◌<◌, ◌⊎◌, List, [], ◌∷◌, ◌++◌, length, get_or, take, drop, set, ap, ◌∙◌, inl, inr, arith}
-use Rattle.std.proofs.lemmas.List.{drop-set-add, take_more_set, length-drop, get_or-set_other}
+-- The records from 1 on are written.
+use Rattle.std.proofs.Common.{◌≡◌, ℕ, ◌+◌, ◌-◌, ◌<◌, ◌⊎◌, List, length, get_or, take, drop, sym, ap, ◌∙◌, inl, inr, arith}
+use Rattle.std.proofs.lemmas.List.{places, length-take-le, length-drop}
+use Rattle.std.proofs.lemmas.Slice.{between-put_mid}
+use borrow.Rule.Slice.PartMut.{put_mid}
 
-module _ {X : Type 0} (recs : List X) (n : ℕ) (j : X) where
-  pub filled_more : n + 1 < length recs → take (n + 1) (drop 1 (set recs (n + 1) j)) ≡ take n (drop 1 recs) ++ (j ∷ [])
-  filled_more lt =
-      let e : n + 1 ≡ 1 + n = omega arith in
-      ap (λ i. take (n + 1) (drop 1 (set recs i j))) e
-      ∙ ap (take (n + 1)) (drop-set-add 1 recs n j)
-      ∙ take_more_set (drop 1 recs) n j (omega (arith, length-drop 1 recs))
+back : (n : ℕ) → n + 1 - 1 ≡ n
+back n = omega arith
 
-  pub others_kept : (k : ℕ) (d : X) → (k ≡ 0) ⊎ (n + 1 < k) → get_or (set recs (n + 1) j) k d ≡ get_or recs k d
-  others_kept k d (inl z) = get_or-set_other recs (n + 1) k j d (λ e. omega arith)
-  others_kept k d (inr lt) = get_or-set_other recs (n + 1) k j d (λ e. omega arith)
+-- how many they are
+pub part_size : {X : Type 0} (xs : List X) (n : ℕ) → n < length xs → length (take (n + 1 - 1) (drop 1 xs)) ≡ n
+part_size xs n lt = omega (arith, length-take-le (n + 1 - 1) (drop 1 xs), length-drop 1 xs)
+
+module _ {X : Type 0} (xs ys : List X) (n : ℕ) (size : length ys ≡ n) (room : n < length xs) where
+  pub filled_size : length (put_mid 1 (n + 1 - 1) xs ys) ≡ length xs
+  filled_size = grind (arith, places)
+
+  pub filled : take n (drop 1 (put_mid 1 (n + 1 - 1) xs ys)) ≡ ys
+  filled = ap (λ i. take i (drop 1 (put_mid 1 (n + 1 - 1) xs ys))) (sym (back n)) ∙ between-put_mid 1 (n + 1 - 1) xs ys (n + 1) (omega arith) (omega arith)
+
+  pub others_kept : (k : ℕ) (d : X) → (k ≡ 0) ⊎ (n < k) → get_or (put_mid 1 (n + 1 - 1) xs ys) k d ≡ get_or xs k d
+  others_kept k d (inl z) = grind (arith, places)
+  others_kept k d (inr lt) = grind (arith, places)

@@ -1,18 +1,23 @@
 -- The run that a heading and job records hold, and what a granted text leaves.
-use Rattle.std.specs.Prelude.{◌≡◌, ℕ, ◌<◌, ◌⊎◌, List, map, length, take, drop, slice_index_or}
+use Rattle.std.specs.Prelude.{◌≡◌, ℕ, ◌<◌, ◌⊎◌, List, map, length, take, drop, slice_index_or, Result, MatchResult}
 use Rattle.std.specs.List.{range_with_len, AllByRecursion}
 use Rattle.amounts.specs.Axes.{Same}
 use Rattle.jobs.specs.declared.Job.{Job}
 use Rattle.jobs.specs.declared.State.TheVariants.{Waiting}
-use Rattle.prints.specs.Runs.{JobLine, Run}
+use Rattle.prints.specs.Runs.{JobLine, Run, Letter}
 use Rattle.prints.specs.Answers.{Good}
 use Rattle.texts.specs.declared.heading.Heading.{Heading}
 use Rattle.texts.specs.declared.heading.Rule.{Rule}
 use Rattle.texts.specs.declared.heading.Rule.TheVariants.{Line, Booking}
+use Rattle.texts.specs.declared.heading.UnknownLetter.{UnknownLetter}
 
 abbrev pub letter_of : Rule → ℕ
 letter_of Line = 76
 letter_of Booking = 66
+
+-- the rule with this letter, or no rule has it
+abbrev pub LetterOf : ℕ → Result Rule UnknownLetter → Type 0
+LetterOf c r = MatchResult r (λ rule. letter_of rule ≡ c) (λ e. (e.0 ≡ c) × ¬ (Letter c))
 
 -- `read` gives what each axis of an amount holds, and w is how many axes there are
 module _ {S : Type 0} (read : S → ℕ → ℕ) where

@@ -11,47 +11,10 @@ mod heading;
 mod reader;
 
 use amounts::Amount;
-pub use heading::{Heading, Rule};
+pub use heading::{Heading, Rule, UnknownLetter};
 use jobs::Job;
 use reader::Reader;
 use refusals::{MOST_AXES, MOST_BYTES, MOST_JOBS, Refusal};
-
-/// Reads a whole text, and counts its jobs.
-fn scan<K: Amount>(text: &[u8]) -> Result<usize, Refusal>
-    requires short { length text.now ≤ 65536 }
-    requires narrow { K.Amount.width ≤ 64 }
-    ensures { MatchResult result (λ n. Counted K.Amount.width text.now n) (λ e. Refused K.Amount.width text.now e) }
-{
-    let mut reader = Reader::new(text);
-    let _heading: Heading<K> = reader.heading()?;
-    let mut count = 0;
-    while reader.more() {
-        let _job: Job<K> = reader.job()?;
-        count += 1;
-    }
-    Ok(count)
-}
-
-/// Reads a text that is known to be good once more, into the records from 1 on.
-fn fill<K: Amount>(text: &[u8], records: &mut [Job<K>]) -> Result<Heading<K>, Refusal>
-    requires short { length text.now ≤ 65536 }
-    requires narrow { K.Amount.width ≤ 64 }
-    requires good { (n : ℕ) × Roomy (length records.old) n × Counted K.Amount.width text.now n }
-    ensures { MatchResult result (λ h. Granted K.Amount.reading K.Amount.width text.now records.old records.new h) (λ e. ⊥) }
-{
-    let mut reader = Reader::new(text);
-    let heading = reader.heading()?;
-    let mut count = 0;
-    while reader.more() {
-        let job = reader.job()?;
-        count += 1;
-        records[count] = job;
-    }
-    Ok(Heading {
-        jobs: count,
-        ..heading
-    })
-}
 
 /// Reads the text of a run into the records from 1 on, and tells its heading.
 ///
@@ -69,9 +32,9 @@ pub fn read<K: Amount>(text: &[u8], records: &mut [Job<K>]) -> Result<Heading<K>
     if text.is_empty() || text.len() > MOST_BYTES {
         return Err(Refusal::TextSize);
     }
-    let jobs = scan::<K>(text)?;
+    let jobs = Reader::<K>::new(text).jobs()?;
     if jobs == 0 || jobs > MOST_JOBS || jobs >= records.len() {
         return Err(Refusal::JobCount { jobs });
     }
-    fill(text, records)
+    Ok(Reader::new(text).fill(jobs, records))
 }

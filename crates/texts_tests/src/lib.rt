@@ -14,77 +14,79 @@ mod tests {
         Job::new(7, K::zero(), K::zero(), 7)
     }
 
-    fn is(
-        rt: &impl Abort,
-        refusal: Refusal,
-        number: u32,
-        place: usize,
-        column: usize,
-    ) -> Result<(), Fail> {
-        assert!(rt;
-            refusal.number() == number && refusal.place() == place && refusal.column() == column
-        );
+    // What a refusal tells: its number, its place and its column.
+    fn is(rt: &impl Abort, refusal: Refusal, told: (u32, usize, usize)) -> Result<(), Fail> {
+        assert!(rt; (refusal.number(), refusal.place(), refusal.column()) == told);
         Ok(())
     }
 
-    fn places(
-        rt: &impl Abort,
-        text: &[u8],
-        number: u32,
-        place: usize,
-        column: usize,
-    ) -> Result<(), Fail> {
-        let mut records: [Job<Places>; 3] = [blank(), blank(), blank()];
-        match read(text, &mut records) {
-            Ok(_) => Err(Fail::new("granted")),
-            Err(refusal) => is(rt, refusal, number, place, column),
+    // Each text is refused as it is told beside it.
+    fn places(rt: &impl Abort, table: &[(&[u8], (u32, usize, usize))]) -> Result<(), Fail> {
+        for (text, told) in table {
+            let mut records: [Job<Places>; 3] = [blank(); 3];
+            match read(text, &mut records) {
+                Ok(_) => return Err(Fail::new("granted")),
+                Err(refusal) => is(rt, refusal, *told)?,
+            }
         }
+        Ok(())
     }
 
     #[test]
     fn sizes(rt: HostRuntime) -> Result<(), Fail> {
-        places(&rt, b"", 1, 0, 0)?;
         let mut long = [b'9'; 65_537];
-        places(&rt, &long, 1, 0, 0)?;
+        places(&rt, &[(b"", (1, 0, 0)), (&long, (1, 0, 0))])?;
         long[..7].copy_from_slice(b"hall L ");
-        places(&rt, &long[..65_536], 3, 1, 8)
+        places(&rt, &[(&long[..65_536], (3, 1, 8))])
     }
 
     #[test]
     fn bytes(rt: HostRuntime) -> Result<(), Fail> {
-        places(&rt, b"hall L 099 1", 2, 1, 9)?;
-        places(&rt, b"hall L 1 0", 2, 1, 11)?;
-        places(&rt, b"hall L 1 0\njob 0 1 2 3\n\n", 2, 3, 1)?;
-        places(&rt, b"hall A 1 0\n", 2, 1, 6)
+        places(
+            &rt,
+            &[
+                (b"hall L 099 1", (2, 1, 9)),
+                (b"hall L 1 0", (2, 1, 11)),
+                (b"hall L 1 0\njob 0 1 2 3\n\n", (2, 3, 1)),
+                (b"hall A 1 0\n", (2, 1, 6)),
+            ],
+        )
     }
 
     #[test]
     fn numbers(rt: HostRuntime) -> Result<(), Fail> {
-        places(&rt, b"hall L 65x", 3, 1, 8)?;
-        places(&rt, b"hall L 65", 3, 1, 8)?;
-        places(&rt, b"hall L 64 1000000001\n", 3, 1, 11)?;
-        places(&rt, b"hall L 1 0\njob 4096 1 2 3\n", 3, 2, 5)?;
-        places(&rt, b"hall L 1 0\njob 0 1 2 10001\n", 3, 2, 11)
+        places(
+            &rt,
+            &[
+                (b"hall L 65x", (3, 1, 8)),
+                (b"hall L 65", (3, 1, 8)),
+                (b"hall L 64 1000000001\n", (3, 1, 11)),
+                (b"hall L 1 0\njob 4096 1 2 3\n", (3, 2, 5)),
+                (b"hall L 1 0\njob 0 1 2 10001\n", (3, 2, 11)),
+            ],
+        )
     }
 
     #[test]
     fn counts(rt: HostRuntime) -> Result<(), Fail> {
-        places(&rt, b"hall L 1 0\n", 4, 0, 0)?;
         places(
             &rt,
-            b"hall B 1 0\njob 0 1 2 3\njob 1 1 2 3\njob 1 1 2 3\n",
-            4,
-            3,
-            0,
+            &[
+                (b"hall L 1 0\n", (4, 0, 0)),
+                (
+                    b"hall B 1 0\njob 0 1 2 3\njob 1 1 2 3\njob 1 1 2 3\n",
+                    (4, 3, 0),
+                ),
+            ],
         )
     }
 
     #[test]
     fn pairs(rt: HostRuntime) -> Result<(), Fail> {
-        let mut records: [Job<Pair<Places, Quarters>>; 2] = [blank(), blank()];
+        let mut records: [Job<Pair<Places, Quarters>>; 2] = [blank(); 2];
         match read(b"hall L 3 20/9\njob 0 5/6 2 9\n", &mut records) {
             Ok(_) => Err(Fail::new("granted")),
-            Err(refusal) => is(&rt, refusal, 2, 2, 12),
+            Err(refusal) => is(&rt, refusal, (2, 2, 12)),
         }?;
         match read(b"hall B 3 20/9\njob 0 5/6 2/0 10000\n", &mut records) {
             Ok(heading) => {

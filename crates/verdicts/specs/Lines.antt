@@ -3,11 +3,14 @@ use Rattle.std.specs.Prelude.{ℕ, min, List, [], ◌∷◌, ◌++◌, Ok, Err, 
 use Rattle.amounts.specs.declared.places.Places.{Places}
 use Rattle.amounts.specs.Axes.{most}
 use Rattle.refusals.specs.declared.Refusal.{Refusal}
-use Rattle.refusals.specs.Told.{told}
+use Rattle.refusals.specs.Told.{refused}
 use Rattle.verdicts.specs.declared.judge.Fit.{Fit}
 
+-- what is told of a run that the hall can carry
+abbrev pub checked : Fit Places → List ℕ
+checked f =
+    codes "checked " ++ (decimal f.jobs ++ (codes " jobs: peak " ++ (decimal (min most f.peak.count) ++ (codes " fits floor " ++ decimal (min most f.floor.count)))))
+
 abbrev pub line_of : Result (Fit Places) Refusal → List ℕ
-line_of (Ok f) =
-    codes "checked " ++ (decimal f.jobs ++ (codes " jobs: peak " ++ (decimal (min most f.peak.count) ++ (codes " fits floor " ++ (decimal (min most f.floor.count) ++ (10 ∷ []))))))
-line_of (Err e) =
-    codes "refused " ++ (decimal (told e).layer ++ (32 ∷ (decimal (told e).number ++ (32 ∷ (decimal (told e).place ++ (32 ∷ (decimal (told e).column ++ (10 ∷ []))))))))
+line_of (Ok f) = checked f ++ (10 ∷ [])
+line_of (Err e) = refused e ++ (10 ∷ [])

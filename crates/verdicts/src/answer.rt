@@ -1,19 +1,19 @@
-ghost use Rattle.std.specs.Prelude.{◌≡◌, min, IfOk, string_bytes};
-ghost use Rattle.amounts.specs.Axes.{most};
-ghost use Rattle.verdicts.specs.Lines.{line_of};
+ghost use Rattle.std.specs.Prelude.{◌≡◌, IfOk, Some, string_bytes};
+ghost use Rattle.verdicts.specs.Lines.{checked, line_of};
 
 use super::judge::Fit;
-use amounts::{Amount, Places};
+use amounts::Places;
 use refusals::Refusal;
 use std::alloc::{AllocError, Global};
+use std::fmt;
 
-/// The only axis of places.
-fn places(amount: &Places) -> u64
-    ensures { result ≡ min most amount.now.count }
-{
-    match amount.axis(1) {
-        Some(value) => value,
-        None => unreachable(),
+/// What is told of a run that the hall can carry.
+impl fmt::Display for Fit<Places> {
+    ghost output = { λ f. Some (checked f) };
+
+    fn fmt<W: fmt::Write>(&self, f: &mut fmt::Formatter<W>) -> fmt::Result {
+        let (jobs, peak, floor) = (self.jobs, self.peak, self.floor);
+        write!(f, "checked {jobs} jobs: peak {peak} fits floor {floor}")
     }
 }
 
@@ -25,18 +25,7 @@ pub fn answer_line(
     ensures { IfOk result (λ s. string_bytes s ≡ line_of answer.now) }
 {
     match answer {
-        Ok(fit) => {
-            let jobs = fit.jobs;
-            let peak = places(&fit.peak);
-            let floor = places(&fit.floor);
-            format!(in heap; "checked {jobs} jobs: peak {peak} fits floor {floor}\n")
-        }
-        Err(refusal) => {
-            let layer = refusal.layer();
-            let number = refusal.number();
-            let place = refusal.place();
-            let column = refusal.column();
-            format!(in heap; "refused {layer} {number} {place} {column}\n")
-        }
+        Ok(fit) => format!(in heap; "{fit}\n"),
+        Err(refusal) => format!(in heap; "{refusal}\n"),
     }
 }

@@ -4,12 +4,12 @@ ghost use Rattle.verdicts.specs.Answered.{Answered};
 use amounts::Amount;
 use checks::carried;
 use jobs::Job;
-use refusals::Refusal;
+use refusals::{MOST_JOBS, Refusal};
 use std::alloc::{AllocError, Global};
 use texts::read;
 
 /// Records for the most jobs that a tree has, and record 0.
-const RECORDS: usize = 4096;
+const RECORDS: usize = MOST_JOBS + 1;
 
 /// A run that the hall can carry: its jobs, the peak of its plain line, and the floor.
 #[derive(Clone, Copy)]
@@ -40,9 +40,6 @@ pub fn check_text<K: Amount>(
     ensures { IfOk result (Answered K.Amount.width K.Amount.reading 4096 text.now) }
 {
     let blank: Job<K> = Job::new(0, K::zero(), K::zero(), 0);
-    let mut records = Vec::new(heap);
-    for _ in 0..RECORDS {
-        records.push(blank)?;
-    }
+    let mut records = vec![in heap; blank; RECORDS]?;
     Ok(judge(text, &mut records))
 }

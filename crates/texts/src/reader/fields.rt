@@ -1,11 +1,11 @@
 //! The parts of a text, one by one. Each method says which bytes it took, and that it stands after
 //! them in every text that stood before it; or it refuses every such text.
-ghost use Rattle.std.specs.Prelude.{◌≡◌, ℕ, ◌+◌, ◌-◌, ◌<◌, ◌≤◌, true, false, [], ◌∷◌, ◌++◌, map, length, IfOk, MatchOption, ◌≢◌, nat_lt, slice_index};
+ghost use Rattle.std.specs.Prelude.{◌≡◌, ℕ, ◌+◌, ◌-◌, ◌<◌, ◌≤◌, true, false, [], ◌∷◌, ◌++◌, map, length, IfOk, MatchOption, MatchResult, nat_lt, slice_index};
 ghost use Rattle.refusals.specs.declared.Refusal.TheVariants.{TextByte};
 ghost use Rattle.prints.specs.Decimal.{digit as isDigit, decimal};
 ghost use Rattle.prints.specs.Runs.{marked, lines, text_of, AmountHeld, LineHeld, RunHeld};
 ghost use Rattle.prints.specs.Parts.{number as numberPart, byte as bytePart, letter as letterPart, Apart, amount_parts, job_parts, heading_parts};
-ghost use Rattle.texts.specs.Steps.{Reads, Any, mark_of};
+ghost use Rattle.texts.specs.Steps.{DigitOf, Accepts, Reads, Any, mark_of};
 ghost use Rattle.texts.specs.Records.{front, letter_of, line_of, run_of, Fresh};
 
 use super::Reader;
@@ -23,22 +23,29 @@ fn mark(axis: u32) -> u8
 
 /// The amount with one axis more.
 fn put<K: Amount>(amount: K, axis: u32, value: u32) -> K
-    requires { (1 ≤ axis) × ((axis ≤ K.Amount.width) × ((K.Amount.width ≤ 64) × (value ≤ 1000000000))) }
+    requires { (1 ≤ axis) × (axis ≤ K.Amount.width) × (axis ≤ 64) × (value ≤ 1000000000) }
     ensures { front K.Amount.reading axis result ≡ front K.Amount.reading (axis - 1) amount ++ (value ∷ []) }
 {
     amount.with_axis(axis, u64::from(value)).unwrap()
 }
 
-impl Reader<'_> {
+/// What the digit stands for.
+fn digit_of(b: u8) -> Option<u64>
+    ensures { DigitOf b result }
+{
+    if b.is_ascii_digit() {
+        Some(u64::from(b - b'0'))
+    } else {
+        None
+    }
+}
+
+impl<K: Amount> Reader<'_, K> {
     /// The byte that comes next.
     fn next(&self) -> Option<u8>
         ensures { MatchOption result (self.now.pos ≡ length self.now.bytes.now) (λ b. (self.now.pos < length self.now.bytes.now) × (b ≡ slice_index self.now.bytes.now self.now.pos)) }
     {
-        if self.more() {
-            Some(self.bytes[self.pos])
-        } else {
-            None
-        }
+        self.bytes.get(self.pos).copied()
     }
 
     /// Whether the text goes on.
@@ -58,52 +65,49 @@ impl Reader<'_> {
         }
     }
 
-    /// A digit, if one comes next.
-    fn digit(&mut self) -> Option<u64>
-        ensures same { self.new.bytes ≡ self.old.bytes }
-        ensures reads { MatchOption result ((self.new.pos ≡ self.old.pos) × (isDigit (slice_index self.old.bytes.now self.old.pos) ≡ false)) (λ d. (self.old.pos < length self.old.bytes.now) × (self.new.pos ≡ self.old.pos + 1) × (d < 10) × (slice_index self.old.bytes.now self.old.pos ≡ 48 + d)) }
+    /// Over the byte that comes next, where `read` makes something of it; else it is refused.
+    fn accept<T, F: FnOnce(u8) -> Option<T>>(&mut self, read: F) -> Result<T, Refusal>
+        requires { F.IsAlwaysCallable read }
+        ensures { Accepts (F.post read) self.old self.new result }
     {
-        if let Some(b) = self.next() {
-            if b >= b'0' && b <= b'9' {
-                self.step();
-                return Some((b - b'0') as u64);
-            }
-        }
-        None
-    }
-
-    /// The byte `b`, which ends no line and is no digit.
-    fn byte(&mut self, b: u8) -> Result<(), Refusal>
-        requires { ((b ≢ 10)) × (isDigit b ≡ false) }
-        ensures same { self.new.bytes ≡ self.old.bytes }
-        ensures reads { Reads self.old.bytes.now self.old.pos self.new.pos (bytePart b ∷ []) Any (λ _. b ∷ []) result }
-    {
-        if let Some(c) = self.next() {
-            if c == b {
-                self.step();
-                return Ok(());
-            }
+        if let Some(b) = self.next()
+            && let Some(x) = read(b)
+        {
+            self.step();
+            return Ok(x);
         }
         Err(self.unfit())
+    }
+
+    /// A digit.
+    fn digit(&mut self) -> Result<u64, Refusal>
+        ensures { Accepts DigitOf self.old self.new result }
+    {
+        self.accept(digit_of)
+    }
+
+    /// The byte `b`, which is no digit.
+    fn byte(&mut self, b: u8) -> Result<(), Refusal>
+        requires { isDigit b ≡ false }
+        ensures { Reads (bytePart b ∷ []) Any (λ _. b ∷ []) self.old self.new result }
+    {
+        self.accept(|c| (c == b).then_some(()))
     }
 
     /// A number of at most `bound`, with no leading zero.
     fn digits(&mut self, bound: u64) -> Result<u32, Refusal>
         requires { bound ≤ 1000000000 }
-        ensures same { self.new.bytes ≡ self.old.bytes }
-        ensures reads { Reads self.old.bytes.now self.old.pos self.new.pos (numberPart bound ∷ []) Apart decimal result }
+        ensures reads { Reads (numberPart bound ∷ []) Apart decimal self.old self.new result }
         ensures bounded { IfOk result (λ n. n ≤ bound) }
     {
         let (line, column) = (self.line, self.column);
-        let Some(first) = self.digit() else {
-            return Err(Refusal::TextByte { line, column });
-        };
+        let first = self.digit()?;
         if first == 0 {
             return Ok(0);
         }
         let mut value = first;
         while value <= bound {
-            let Some(d) = self.digit() else {
+            let Ok(d) = self.digit() else {
                 return Ok(value as u32);
             };
             value = value * 10 + d;
@@ -113,52 +117,25 @@ impl Reader<'_> {
 
     /// A number after the byte `mark`.
     fn number(&mut self, mark: u8, bound: u64) -> Result<u32, Refusal>
-        requires { ((mark ≢ 10)) × ((isDigit mark ≡ false) × (bound ≤ 1000000000)) }
-        ensures same { self.new.bytes ≡ self.old.bytes }
-        ensures reads { Reads self.old.bytes.now self.old.pos self.new.pos (bytePart mark ∷ numberPart bound ∷ []) Apart (λ n. mark ∷ decimal n) result }
+        requires { (isDigit mark ≡ false) × (bound ≤ 1000000000) }
+        ensures reads { Reads (bytePart mark ∷ numberPart bound ∷ []) Apart (λ n. mark ∷ decimal n) self.old self.new result }
         ensures bounded { IfOk result (λ n. n ≤ bound) }
     {
         self.byte(mark)?;
         self.digits(bound)
     }
 
-    /// A line's end.
-    fn line_end(&mut self) -> Result<(), Refusal>
-        ensures same { self.new.bytes ≡ self.old.bytes }
-        ensures reads { Reads self.old.bytes.now self.old.pos self.new.pos (bytePart 10 ∷ []) Any (λ _. 10 ∷ []) result }
-    {
-        if let Some(b) = self.next() {
-            if b == b'\n' {
-                self.turn();
-                return Ok(());
-            }
-        }
-        Err(self.unfit())
-    }
-
     /// The letter of a rule.
     fn letter(&mut self) -> Result<Rule, Refusal>
-        ensures same { self.new.bytes ≡ self.old.bytes }
-        ensures reads { Reads self.old.bytes.now self.old.pos self.new.pos (letterPart ∷ []) Any (λ a. letter_of a ∷ []) result }
+        ensures { Reads (letterPart ∷ []) Any (λ a. letter_of a ∷ []) self.old self.new result }
     {
-        if let Some(b) = self.next() {
-            if b == b'L' {
-                self.step();
-                return Ok(Rule::Line);
-            }
-            if b == b'B' {
-                self.step();
-                return Ok(Rule::Booking);
-            }
-        }
-        Err(self.unfit())
+        self.accept(|b| Rule::try_from(b).ok())
     }
 
-    /// The bytes of a word, none of them a line's end or a digit.
+    /// The bytes of a word, none of them a digit.
     fn word(&mut self, w: &[u8]) -> Result<(), Refusal>
-        requires { (i : ℕ) → i < length w.now → (slice_index w.now i ≢ 10) × (isDigit (slice_index w.now i) ≡ false) }
-        ensures same { self.new.bytes ≡ self.old.bytes }
-        ensures reads { Reads self.old.bytes.now self.old.pos self.new.pos (map bytePart w.now) Any (λ _. w.now) result }
+        requires { (i : ℕ) → i < length w.now → isDigit (slice_index w.now i) ≡ false }
+        ensures { Reads (map bytePart w.now) Any (λ _. w.now) self.old self.new result }
     {
         for b in w {
             self.byte(*b)?;
@@ -167,14 +144,13 @@ impl Reader<'_> {
     }
 
     /// An amount of a kind: a space, and a number on each axis, with a slash between two.
-    fn amount<K: Amount>(&mut self, bound: u64) -> Result<K, Refusal>
-        requires { (bound ≤ 1000000000) × (K.Amount.width ≤ 64) }
-        ensures same { self.new.bytes ≡ self.old.bytes }
-        ensures reads { Reads self.old.bytes.now self.old.pos self.new.pos (amount_parts 32 K.Amount.width bound) Apart (λ a. marked 32 (front K.Amount.reading K.Amount.width a)) result }
+    fn amount(&mut self, bound: u64) -> Result<K, Refusal>
+        requires { bound ≤ 1000000000 }
+        ensures reads { Reads (amount_parts 32 K.Amount.width bound) Apart (λ a. marked 32 (front K.Amount.reading K.Amount.width a)) self.old self.new result }
         ensures held { IfOk result (λ a. AmountHeld K.Amount.width true bound (front K.Amount.reading K.Amount.width a)) }
     {
         let mut amount = K::zero();
-        for axis in 1..K::count() + 1 {
+        for axis in 1..=K::count() {
             let value = self.number(mark(axis), bound)?;
             amount = put(amount, axis, value);
         }
@@ -182,10 +158,8 @@ impl Reader<'_> {
     }
 
     /// A job's line.
-    pub(crate) fn job<K: Amount>(&mut self) -> Result<Job<K>, Refusal>
-        requires { K.Amount.width ≤ 64 }
-        ensures same { self.new.bytes ≡ self.old.bytes }
-        ensures reads { Reads self.old.bytes.now self.old.pos self.new.pos (job_parts K.Amount.width) Any (λ j. lines (line_of K.Amount.reading K.Amount.width j ∷ [])) result }
+    pub(crate) fn job(&mut self) -> Result<Job<K>, Refusal>
+        ensures reads { Reads (job_parts K.Amount.width) Any (λ j. lines (line_of K.Amount.reading K.Amount.width j ∷ [])) self.old self.new result }
         ensures held { IfOk result (λ j. LineHeld K.Amount.width true (line_of K.Amount.reading K.Amount.width j)) }
         ensures fresh { IfOk result (λ j. Fresh K.Amount.reading j) }
     {
@@ -194,22 +168,20 @@ impl Reader<'_> {
         let work = self.amount(AXIS_BOUND)?;
         let output = self.amount(AXIS_BOUND)?;
         let minutes = self.number(b' ', MINUTES_BOUND as u64)?;
-        self.line_end()?;
+        self.byte(b'\n')?;
         Ok(Job::new(parent, work, output, minutes))
     }
 
     /// The first line, with no job counted yet.
-    pub(crate) fn heading<K: Amount>(&mut self) -> Result<Heading<K>, Refusal>
-        requires { K.Amount.width ≤ 64 }
-        ensures same { self.new.bytes ≡ self.old.bytes }
-        ensures reads { Reads self.old.bytes.now self.old.pos self.new.pos (heading_parts K.Amount.width) Any (λ h. text_of (run_of K.Amount.reading K.Amount.width h [])) result }
+    pub(crate) fn heading(&mut self) -> Result<Heading<K>, Refusal>
+        ensures reads { Reads (heading_parts K.Amount.width) Any (λ h. text_of (run_of K.Amount.reading K.Amount.width h [])) self.old self.new result }
         ensures held { IfOk result (λ h. RunHeld K.Amount.width true (run_of K.Amount.reading K.Amount.width h [])) }
     {
         self.word(b"hall ")?;
         let rule = self.letter()?;
         let benches = self.number(b' ', MOST_BENCHES as u64)?;
         let floor = self.amount(FLOOR_BOUND)?;
-        self.line_end()?;
+        self.byte(b'\n')?;
         Ok(Heading {
             rule,
             benches,

@@ -1,11 +1,9 @@
-use Rattle.std.proofs.Common.{◌≡◌, ℕ, ◌+◌, ◌<◌, List, length, get_or, Some, None, Option, sym, ◌∙◌, arith}
+use Rattle.std.proofs.Common.{◌≡◌, ℕ, ◌+◌, ◌<◌, List, length, get_or, Some, None, Option, arith}
 use Rattle.amounts.specs.Axes.{most, Sum}
 use Rattle.trees.specs.Sums.{In}
 use Rattle.jobs.specs.declared.Job.{Job}
-use Rattle.jobs.specs.declared.State.TheVariants.{Done}
 use Rattle.jobs.proofs.Fields.{at_read}
 use Rattle.boards.specs.Held.{Bearable, With}
-use Rattle.boards.proofs.Reading.{state_read}
 use Rattle.boards.proofs.held.held_with.Goals as goal
 
 module _ {S : Type 0} (w : ℕ) (read : S → ℕ → ℕ) (xs : List (Job S)) (j : ℕ) (held : S) (x : Job S) (job : In 4095 j) (inside : j < length xs) (is : x ≡ get_or xs j x) where
@@ -18,12 +16,6 @@ module _ {S : Type 0} (w : ℕ) (read : S → ℕ → ℕ) (xs : List (Job S)) (
       omega (arith, bear.bears k, sums k, at_read (λ j. read j.work k) xs j x inside is, at_read (λ j. read j.output k) xs j x inside is)
   with_output half sums (Some y) total =
       (job, inside, λ a. omega (arith, total a, sums a, at_read (λ j. read j.work a) xs j x inside is, at_read (λ j. read j.output a) xs j x inside is))
-
-pub returns-in_default : goal.returns-in_default
-returns-in_default g c bear =
-    let job = c.in_ok-record.record.now in
-    let its = c.in_ok-record.ensures.lookup in
-    c.in_default.not-Waiting (sym (state_read c.args.jobs.now c.args.job job its.3.0 its.1 Done) ∙ bear.waits)
 
 pub returns-in_err-sum : goal.returns-in_err-sum
 returns-in_err-sum g c =

@@ -1,9 +1,6 @@
-use Rattle.std.proofs.Common.{◌≡◌, ℕ, ◌+◌, ◌-◌, ◌<◌, length, get_or, set, subst, arith, rules}
+use Rattle.std.proofs.Common.{◌<◌, length, rules, ◌≡◌, ℕ, ◌+◌, ◌-◌, get_or, set, subst, arith}
 use Rattle.boards.proofs.Laying.{ready, Readied, readied_more, laid}
 use Rattle.boards.proofs.lay.lay.Goals as goal
-
-pub offset_bounds-jobs-i : goal.offset_bounds-jobs-i
-offset_bounds-jobs-i g c = let h : c.loop-i.i < length c.args.jobs.now = omega arith in search rules
 
 pub offset_bounds-jobs-i-in-loop-i : goal.offset_bounds-jobs-i-in-loop-i
 offset_bounds-jobs-i-in-loop-i g c = let h : c.loop-i.i < length c.args.jobs.now = omega arith in search rules

@@ -21,10 +21,6 @@ returns-in_err-check g c =
     rw (p.1, p.2) (first_rule g.K.Amount.width g.K.Amount.reading g.R.Rule.acts g.met.R.Rule.listed c.args.self.now.rule c.args.jobs.now c.args.plan.now
     good.0 c.in_ok-check_hall.ensures.0 c.in_err-check.field-0.0 (c.in_err-check.ensures good.1.sound good.1.lined))
 
--- the tree and its line were checked before
-pub returns-in_err-position : goal.returns-in_err-position
-returns-in_err-position g c = absurd (c.in_ok-survey.ensures.0 _ c.in_err-position.ensures.deserved)
-
 pub returns-in-Some : goal.returns-in-Some
 returns-in-Some g c =
     let good = c.in_ok-survey.ensures in

@@ -1,5 +1,4 @@
 use Rattle.std.proofs.Common.{◌≡◌, ℕ, ◌≤◌, List, [], sym, refl, ap, subst, inl, inr, arith}
-use Rattle.std.proofs.lemmas.Result.{err_from_is_err_and}
 use Rattle.std.proofs.lemmas.Bool.{cases_lt}
 use Rattle.jobs.specs.declared.Job.{Job}
 use Rattle.rules.specs.declared.hall.Hall.{Hall}
@@ -21,11 +20,6 @@ begins : {R S : Type 0} (w : ℕ) (read : S → ℕ → ℕ) (acts : Acts R S) (
 begins w read acts r s xs ys zs plan h is told alike granted =
     let opening = subst (λ g. GrantedOpening w read acts r xs plan.line.now g ys) (sym is) granted in
     subst (λ o. Course w read acts o [] s h zs) (ap (λ g. opened_of read g xs) is) (opens r s xs ys zs plan.line.now h opening (told opening) alike)
-
-pub returns-in_err-survey : goal.returns-in_err-survey
-returns-in_err-survey g c =
-    let p = err_from_is_err_and c.from_residual.result c.from_residual.ensures.1 in
-    record { judged = rw (p.1, p.2) c.in_err-survey.ensures; still = rw p.1 (refl, refl) }
 
 pub returns : goal.returns
 returns g c =

@@ -1,7 +1,6 @@
 -- A desk is served, one call more.
 use Rattle.std.proofs.Common.{◌≡◌, ℕ, ◌<◌, ◌⊎◌, List, [], ◌∷◌, ◌++◌, length, get_or, Result, sym, refl, ap, ◌∙◌, subst, inl, inr, append_assoc, append-nil, arith}
 use Rattle.refusals.specs.declared.Refusal.{Refusal}
-use Rattle.refusals.specs.Judged.{First}
 use Rattle.jobs.specs.declared.Job.{Job}
 use Rattle.logs.specs.declared.call.Call.{Call}
 use Rattle.logs.specs.declared.call.Answer.{Answer}
@@ -12,10 +11,10 @@ use Rattle.rules.specs.Duties.{Safe, Willing}
 use Rattle.rules.specs.Acts.{Acts}
 use Rattle.boards.specs.declared.board.Board.{Board}
 use Rattle.boards.specs.declared.opening.Plan.{Plan}
-use Rattle.boards.specs.Faults.{OpenFault, planned}
+use Rattle.boards.specs.Faults.{planned}
 use Rattle.boards.specs.Course.{Led}
 use Rattle.boards.proofs.Courses.{along}
-use Rattle.shifts.specs.Shifts.{CarriedOut, Served, Opens, NotOpened, Shift, WholeShift, Answered}
+use Rattle.shifts.specs.Shifts.{CarriedOut, Served, Opens, Shift, WholeShift, Answered}
 
 module _ {R S : Type 0} (w : ℕ) (read : S → ℕ → ℕ) (acts : Acts R S) where
   -- the events that were entered since the journal was `before`, after the log l
@@ -25,9 +24,6 @@ module _ {R S : Type 0} (w : ℕ) (read : S → ℕ → ℕ) (acts : Acts R S) w
     pub led : Led w read acts o (l ++ events) d zs
 
   module _ (o : Opened) (l before : List (Event S)) where
-    pub so_far_none : (d : Board S R) (zs : List (Job S)) → Led w read acts o l d zs → SoFar o l before before d zs
-    so_far_none d zs led = record { events = []; journaled = sym (append-nil before); led = rw append-nil led }
-
     -- nothing more was carried out
     pub served : (after same : List (Event S)) (d : Board S R) (zs : List (Job S)) → SoFar o l before after d zs → same ≡ after → (v : Served w read acts o l before same d zs) × (v.unentered ≡ [])
     served after same d zs s e = (
@@ -78,9 +74,6 @@ log_more m cs xs i d x e h =
 module _ {R S : Type 0} (w : ℕ) (read : S → ℕ → ℕ) (acts : Acts R S) (safe : Safe w read acts) (willing : Willing w read acts) where
   pub carried : (o : Opened) (l : List (Event S)) (d : Board S R) (zs : List (Job S)) → Led w read acts o l d zs → CarriedOut w read acts o l zs
   carried o l d zs led = record { lawful = (along w read acts safe willing led).lawful; board = d; led = led }
-
-  pub not_opened : (b : Board S R) (r : R) → b.rule ≡ r → (xs : List (Job S)) (plan : Plan S) (zs : List (Job S)) (e : Refusal) → First (OpenFault w read acts b.rule xs plan) e → zs ≡ xs → NotOpened w read acts r xs plan zs e
-  not_opened b r is xs plan zs e first same = record { first = subst (λ v. First (OpenFault w read acts v xs plan) e) is first; same = same }
 
   -- the board was opened under the rule r
   module _ (b : Board S R) (r : R) (is : b.rule ≡ r) (xs : List (Job S)) (plan : Plan S) (d : Board S R) (zs : List (Job S)) (opens : Opens w read acts b.rule xs plan zs) where

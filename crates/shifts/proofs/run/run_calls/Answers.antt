@@ -4,7 +4,7 @@ use Rattle.std.proofs.lemmas.Result.{err_from_is_err_and}
 use Rattle.logs.specs.Logs.{paired}
 use Rattle.boards.specs.Faults.{planned}
 use Rattle.boards.specs.Course.{Led}
-use Rattle.shifts.proofs.Serving.{paired_none, log_more, answered, not_opened}
+use Rattle.shifts.proofs.Serving.{paired_none, log_more, answered}
 use Rattle.shifts.proofs.run.run_calls.Goals as goal
 
 pub loop-call-init : goal.loop-call-init
@@ -49,8 +49,3 @@ returns g c =
       omega (arith, c.loop-call.invariant.0),
       answered g.K.Amount.width g.K.Amount.reading g.R.Rule.acts g.met.R.Rule.safe g.met.R.Rule.willing c.new-board.result c.args.rule c.new-board.ensures.0 c.args.jobs.now c.args.plan.now c.loop-call.board c.loop-call.jobs good.0 c.args.calls.now (vec_items c.loop-call.answers) (c.loop-call.invariant.1 _ [] good.1),
     )
-
-pub returns-in-Err : goal.returns-in-Err
-returns-in-Err g c =
-    let bad = c.in-Err.ensures in
-    not_opened g.K.Amount.width g.K.Amount.reading g.R.Rule.acts g.met.R.Rule.safe g.met.R.Rule.willing c.new-board.result c.args.rule c.new-board.ensures.0 c.args.jobs.now c.args.plan.now _ _ bad.judged bad.still.1

@@ -1,6 +1,6 @@
-use Rattle.std.proofs.Common.{[], refl}
+use Rattle.std.proofs.Common.{[]}
 use Rattle.std.proofs.lemmas.Result.{err_from_is_err_and}
-use Rattle.shifts.proofs.Serving.{shifted, shifted_whole, not_opened}
+use Rattle.shifts.proofs.Serving.{shifted, shifted_whole}
 use Rattle.shifts.proofs.run.run_shift.Goals as goal
 
 pub returns-in_err-serve : goal.returns-in_err-serve
@@ -14,8 +14,3 @@ returns g c =
     let good = c.in_default.ensures.judged in
     let s = c.in_ok-serve.ensures _ [] good.1 in
     shifted_whole g.K.Amount.width g.K.Amount.reading g.R.Rule.acts g.met.R.Rule.safe g.met.R.Rule.willing c.new-board.result c.args.rule c.new-board.ensures.0 c.args.jobs.now c.args.plan.now c.serve.new.board c.serve.new.jobs good.0 _ _ c.tally.result s.0 s.1 (λ l led. c.tally.ensures.tallied _ l _ led)
-
-pub returns-in-Err : goal.returns-in-Err
-returns-in-Err g c =
-    let bad = c.in-Err.ensures in
-    (not_opened g.K.Amount.width g.K.Amount.reading g.R.Rule.acts g.met.R.Rule.safe g.met.R.Rule.willing c.new-board.result c.args.rule c.new-board.ensures.0 c.args.jobs.now c.args.plan.now _ _ bad.judged bad.still.1, refl)

@@ -1,16 +1,8 @@
 use Rattle.std.proofs.Common.{◌≡◌, ◌⊎◌, [], ◌∷◌, ◌++◌, refl, ap, ◌∙◌, subst}
 use Rattle.std.proofs.lemmas.Result.{err_from_is_err_and}
 use Rattle.logs.specs.Logs.{event}
-use Rattle.shifts.proofs.Serving.{so_far_none, served, so_far_more, unserved}
+use Rattle.shifts.proofs.Serving.{served, so_far_more, unserved}
 use Rattle.shifts.proofs.run.serve.Goals as goal
-
-pub loop-init : goal.loop-init
-loop-init g c o m led = so_far_none g.K.Amount.width g.K.Amount.reading g.R.Rule.acts o m _ _ _ led
-
-pub returns-in_err-call : goal.returns-in_err-call
-returns-in_err-call g c o m led =
-    let p = err_from_is_err_and c.from_residual.result c.from_residual.ensures.1 in
-    rw p.1 (served g.K.Amount.width g.K.Amount.reading g.R.Rule.acts o m _ _ _ _ _ (c.loop.invariant o m led) c.next_call.ensures).0
 
 pub returns-in_default : goal.returns-in_default
 returns-in_default g c o m led =

@@ -1,6 +1,5 @@
 -- What the calls of a board that a log led to answer, and what they leave.
-use Rattle.std.proofs.Common.{◌≡◌, ℕ, ◌+◌, ◌-◌, ◌<◌, ◌≤◌, true, false, not, List, [], ◌∷◌, ◌++◌, map, length, get_or, set, is_some, Some, None, Option, Ok, Err, Result, sym, refl, ap, ◌∙◌, subst, arith}
-use Rattle.std.proofs.lemmas.Bool.{true≢false}
+use Rattle.std.proofs.Common.{◌≡◌, ℕ, ◌+◌, ◌-◌, ◌<◌, ◌≤◌, not, List, [], ◌∷◌, ◌++◌, map, length, get_or, set, Some, None, Option, Ok, Err, Result, sym, refl, ap, ◌∙◌, subst, arith}
 use Rattle.std.proofs.lemmas.List.{get_or_default, length-map}
 use Rattle.amounts.specs.Axes.{most}
 use Rattle.refusals.specs.declared.Refusal.{Refusal}
@@ -46,14 +45,10 @@ abbrev pub clear_at_place : {S : Type 0} → Hall S → ℕ → S → ℕ → Ha
 clear_at_place h p x n =
     record { jobs = h.jobs; benches = h.benches; floor = h.floor; held = x; table = set h.table p None; starts = h.starts; reports = n }
 
--- what a place of the table has
-pub some_from : (o : Option ℕ) → true ≡ is_some o → (j : ℕ) × (o ≡ Some j)
-some_from (Some j) e = (j, refl)
-some_from None e = absurd (true≢false e)
-
-pub none_from : (o : Option ℕ) → false ≡ is_some o → o ≡ None
-none_from (Some j) e = absurd (true≢false (sym e))
-none_from None e = refl
+-- a place of the table that is not empty has a job
+pub some_from : (o : Option ℕ) → (o ≡ None → ⊥) → (j : ℕ) × (o ≡ Some j)
+some_from (Some j) full = (j, refl)
+some_from None full = absurd (full refl)
 
 -- the same halls, where the place p is that of bench n
 pub seat_at : {S : Type 0} (h : Hall S) (p n j : ℕ) (x : S) → p ≡ n - 1 → seat_at_place h p j x ≡ seat h n j x

@@ -26,10 +26,9 @@ impl<K: Amount, R: Rule<K>> Board<K, R> {
         ensures follows { Continues K.Amount.width K.Amount.reading R.Rule.acts self.old jobs.old (Start bench) (answered Started result) self.new jobs.new }
     {
         let place = place_of(bench, self.hall.benches)?;
-        let seated = self.hall.table[place];
-        if seated.is_some() {
+        let None = self.hall.table[place] else {
             return Err(Refusal::BenchBusy { bench });
-        }
+        };
         if self.hall.starts >= self.hall.jobs {
             return Err(Refusal::AllStarted { bench });
         }

@@ -42,19 +42,6 @@ module _ {S : Type 0} where
     pub others : (k : ℕ) (d : Job S) → (In n k → ⊥) → get_or ys k d ≡ get_or xs k d
 
 module _ {S : Type 0} (first next position : ℕ → ℕ) (xs : List (Job S)) where
-  pub none_readied : Readied 0 first next position xs xs
-  none_readied =
-      record {
-        typed_same = refl;
-        shares = refl;
-        booked = refl;
-        firsts = λ k h. absurd (omega arith);
-        nexts = λ k h. absurd (omega arith);
-        positions = λ k h. absurd (omega arith);
-        waiting = λ k h. absurd (omega arith);
-        others = λ k d h. refl;
-      }
-
   module _ (ys : List (Job S)) (i : ℕ) (job : Job S) (some : 1 ≤ i) (inside : i < length ys) (read : job ≡ get_or ys i job) (r : Readied (i - 1) first next position xs ys) where
     abbrev new : Job S
     new = ready job (first i) (next i) (position i)

@@ -1,5 +1,5 @@
 -- What the tests on a job's state tell.
-use Rattle.std.proofs.Common.{◌≡◌, ℕ, ◌+◌, true, false, not, ◌&&◌, sym, refl, ap, ◌∙◌, arith}
+use Rattle.std.proofs.Common.{◌≡◌, ℕ, ◌+◌, true, not, ◌&&◌, sym, refl, ap, ◌∙◌, arith}
 use Rattle.std.proofs.lemmas.Bool.{true≢false, eqb-true, eq-eqb}
 use Rattle.trees.specs.Sums.{only}
 use Rattle.jobs.specs.declared.State.{State}
@@ -15,16 +15,6 @@ pub done_from : (s : State) → is_done s ≡ true → s ≡ Done
 done_from Waiting e = absurd (true≢false (sym e))
 done_from (Running b) e = absurd (true≢false (sym e))
 done_from Done e = refl
-
-pub not_waiting : (s : State) → (s ≡ Waiting → ⊥) → is_waiting s ≡ false
-not_waiting Waiting h = absurd (h refl)
-not_waiting (Running b) h = refl
-not_waiting Done h = refl
-
-pub not_done : (s : State) → (s ≡ Done → ⊥) → is_done s ≡ false
-not_done Waiting h = refl
-not_done (Running b) h = refl
-not_done Done h = absurd (h refl)
 
 pub runs_on_from : (b : ℕ) (s : State) → runs_on b s ≡ true → s ≡ Running b
 runs_on_from b Waiting e = absurd (true≢false (sym e))

@@ -17,7 +17,7 @@ use Rattle.peaks.proofs.Firsts.{number}
 use Rattle.peaks.proofs.Halls.{bound_low, bound_high}
 use Rattle.rules.specs.Acts.{Acts}
 use Rattle.rules.specs.Duties.{Listed}
-use Rattle.boards.specs.declared.opening.Plan.{Plan}
+use Rattle.boards.specs.declared.opening.Setup.{Setup}
 use Rattle.boards.specs.Faults.{OpenFault}
 use Rattle.boards.specs.Faults.OpenFault.{unrun, unbounded, unruled, exceeded}
 
@@ -26,15 +26,15 @@ row_low (unfit p i h) = lit< tt
 row_low (longer h) = lit< tt
 row_low (early p c i j a b) = lit< tt
 
-module _ {R S : Type 0} (w : ℕ) (read : S → ℕ → ℕ) (acts : Acts R S) (listed : Listed acts) (r : R) (xs : List (Job S)) (plan : Plan S) where
+module _ {R S : Type 0} (w : ℕ) (read : S → ℕ → ℕ) (acts : Acts R S) (listed : Listed acts) (r : R) (xs : List (Job S)) (setup : Setup S) where
   abbrev n : ℕ
-  n = plan.jobs
+  n = setup.jobs
 
   abbrev row : List ℕ
-  row = plan.line.now
+  row = setup.line.now
 
   abbrev Fault : Refusal → Type 0
-  Fault = OpenFault w read acts r xs plan
+  Fault = OpenFault w read acts r xs setup
 
   run_low : {e : Refusal} → RunFault w read xs n row e → (told e).number < 11
   run_low (untreed h) = omega (arith, number w read xs n row h)
@@ -42,7 +42,7 @@ module _ {R S : Type 0} (w : ℕ) (read : S → ℕ → ℕ) (acts : Acts R S) (
 
   after_run : (e : Refusal) → First (RunFault w read xs n row) e → {d : Refusal} → Fault d → NotAfter (told e) (told d)
   after_run e f (unrun h) = f.first _ h
-  after_run e f (unbounded h) = let a = run_low f.deserved in let b = bound_low w plan.benches (read plan.floor) h in inl (omega arith)
+  after_run e f (unbounded h) = let a = run_low f.deserved in let b = bound_low w setup.benches (read setup.floor) h in inl (omega arith)
   after_run e f (unruled h) = let a = run_low f.deserved in let b = listed r xs n row _ h in inl (omega arith)
   after_run e f (exceeded p i h) = let a = run_low f.deserved in inl (omega arith)
 
@@ -50,16 +50,16 @@ module _ {R S : Type 0} (w : ℕ) (read : S → ℕ → ℕ) (acts : Acts R S) (
   first_run e f = record { deserved = unrun f.deserved; first = λ d h. after_run e f h }
 
   module _ (run : (e : Refusal) → RunFault w read xs n row e → ⊥) where
-    after_bound : (e : Refusal) → First (BoundFault w plan.benches (read plan.floor)) e → {d : Refusal} → Fault d → NotAfter (told e) (told d)
+    after_bound : (e : Refusal) → First (BoundFault w setup.benches (read setup.floor)) e → {d : Refusal} → Fault d → NotAfter (told e) (told d)
     after_bound e f (unrun h) = absurd (run _ h)
     after_bound e f (unbounded h) = f.first _ h
-    after_bound e f (unruled h) = let a = bound_high w plan.benches (read plan.floor) f.deserved in let b = listed r xs n row _ h in inl (omega arith)
-    after_bound e f (exceeded p i h) = let a = bound_high w plan.benches (read plan.floor) f.deserved in inl (omega arith)
+    after_bound e f (unruled h) = let a = bound_high w setup.benches (read setup.floor) f.deserved in let b = listed r xs n row _ h in inl (omega arith)
+    after_bound e f (exceeded p i h) = let a = bound_high w setup.benches (read setup.floor) f.deserved in inl (omega arith)
 
-    pub first_bound : (e : Refusal) → First (BoundFault w plan.benches (read plan.floor)) e → First Fault e
+    pub first_bound : (e : Refusal) → First (BoundFault w setup.benches (read setup.floor)) e → First Fault e
     first_bound e f = record { deserved = unbounded f.deserved; first = λ d h. after_bound e f h }
 
-    module _ (bounded : (e : Refusal) → BoundFault w plan.benches (read plan.floor) e → ⊥) where
+    module _ (bounded : (e : Refusal) → BoundFault w setup.benches (read setup.floor) e → ⊥) where
       after_rule : (e : Refusal) → First (acts.refuses r xs n row) e → {d : Refusal} → Fault d → NotAfter (told e) (told d)
       after_rule e f (unrun h) = absurd (run _ h)
       after_rule e f (unbounded h) = absurd (bounded _ h)
@@ -70,16 +70,16 @@ module _ {R S : Type 0} (w : ℕ) (read : S → ℕ → ℕ) (acts : Acts R S) (
       first_rule e f = record { deserved = unruled f.deserved; first = λ d h. after_rule e f h }
 
       module _ (ruled : (e : Refusal) → acts.refuses r xs n row e → ⊥) where
-        after_exceeded : (x : ℕ) → ((k : ℕ) → In n k → k < x → Over read xs n row plan.floor k → ⊥) → {d : Refusal} → Fault d → NotAfter (told (FloorExceeded x)) (told d)
+        after_exceeded : (x : ℕ) → ((k : ℕ) → In n k → k < x → Over read xs n row setup.floor k → ⊥) → {d : Refusal} → Fault d → NotAfter (told (FloorExceeded x)) (told d)
         after_exceeded x low (unrun h) = absurd (run _ h)
         after_exceeded x low (unbounded h) = absurd (bounded _ h)
         after_exceeded x low (unruled h) = absurd (ruled _ h)
         after_exceeded x low (exceeded p i h) = inr (refl, elim (cases_lt p x) [ inl b ↦ absurd (low p i b h) | inr b ↦ b ])
 
-        pub first_exceeded : (x : ℕ) → In n x → Over read xs n row plan.floor x → ((k : ℕ) → In n k → k < x → Over read xs n row plan.floor k → ⊥) → First Fault (FloorExceeded x)
+        pub first_exceeded : (x : ℕ) → In n x → Over read xs n row setup.floor x → ((k : ℕ) → In n k → k < x → Over read xs n row setup.floor k → ⊥) → First Fault (FloorExceeded x)
         first_exceeded x i h low = record { deserved = exceeded x i h; first = λ d f. after_exceeded x low f }
 
-        pub no_fault : ((k : ℕ) → In n k → Over read xs n row plan.floor k → ⊥) → (d : Refusal) → Fault d → ⊥
+        pub no_fault : ((k : ℕ) → In n k → Over read xs n row setup.floor k → ⊥) → (d : Refusal) → Fault d → ⊥
         no_fault fits d (unrun h) = run d h
         no_fault fits d (unbounded h) = bounded d h
         no_fault fits d (unruled h) = ruled d h

@@ -10,16 +10,16 @@ use Rattle.peaks.specs.Stood.{Over}
 use Rattle.rules.specs.Acts.{Acts}
 use Rattle.logs.specs.Stands.{Opened}
 use Rattle.rules.specs.Records.{opened_with}
-use Rattle.boards.specs.declared.opening.Plan.{Plan}
+use Rattle.boards.specs.declared.opening.Setup.{Setup}
 
--- the tree and the hall of a plan; xs are the records, and `read` gives an amount's axes
-abbrev pub planned : {S : Type 0} → (S → ℕ → ℕ) → List (Job S) → Plan S → Opened
-planned read xs plan = opened_with read xs plan.jobs plan.benches plan.floor
+-- the tree and the hall of a setup; xs are the records, and `read` gives an amount's axes
+abbrev pub as_opened : {S : Type 0} → (S → ℕ → ℕ) → List (Job S) → Setup S → Opened
+as_opened read xs setup = opened_with read xs setup.jobs setup.benches setup.floor
 
--- xs are the records and plan is what is to be opened with them, r is the rule's record
-module _ {R S : Type 0} (w : ℕ) (read : S → ℕ → ℕ) (acts : Acts R S) (r : R) (xs : List (Job S)) (plan : Plan S) where
+-- xs are the records and setup is what is to be opened with them, r is the rule's record
+module _ {R S : Type 0} (w : ℕ) (read : S → ℕ → ℕ) (acts : Acts R S) (r : R) (xs : List (Job S)) (setup : Setup S) where
   pub data OpenFault : Refusal → Type 0 where
-    unrun : {e : Refusal} → RunFault w read xs plan.jobs plan.line.now e → OpenFault e
-    unbounded : {e : Refusal} → BoundFault w plan.benches (read plan.floor) e → OpenFault e
-    unruled : {e : Refusal} → acts.refuses r xs plan.jobs plan.line.now e → OpenFault e
-    exceeded : (p : ℕ) → In plan.jobs p → Over read xs plan.jobs plan.line.now plan.floor p → OpenFault (FloorExceeded p)
+    unrun : {e : Refusal} → RunFault w read xs setup.jobs setup.line.now e → OpenFault e
+    unbounded : {e : Refusal} → BoundFault w setup.benches (read setup.floor) e → OpenFault e
+    unruled : {e : Refusal} → acts.refuses r xs setup.jobs setup.line.now e → OpenFault e
+    exceeded : (p : ℕ) → In setup.jobs p → Over read xs setup.jobs setup.line.now setup.floor p → OpenFault (FloorExceeded p)

@@ -8,4 +8,4 @@ mod lay;
 mod opening;
 
 pub use board::Board;
-pub use opening::Plan;
+pub use opening::Setup;

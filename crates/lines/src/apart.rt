@@ -1,9 +1,8 @@
 ghost use Rattle.std.specs.Prelude.{◌≡◌, ℕ, ◌+◌, ◌-◌, ◌^◌, ◌<◌, ◌≤◌, min, length, if◌then◌else◌, ◌≢◌, nat_eq, slice_index};
 ghost use Rattle.refusals.specs.Judged.{Judged};
-ghost use Rattle.trees.specs.Found.{jobs_in, par_in, Lowest};
+ghost use Rattle.trees.specs.Found.{jobs_in, par_in, TreeRow, Lowest};
 ghost use Rattle.trees.specs.Lines.{Line, place};
 ghost use Rattle.trees.specs.Sums.{In};
-ghost use Rattle.trees.specs.Trees.{Tree};
 ghost use Rattle.lines.specs.Faults.{LineFault};
 ghost use Rattle.lines.specs.Spans.{members, Begins, Apart};
 
@@ -24,9 +23,8 @@ pub fn lowest_apart(parents: &[u32], row: &[u32]) -> Result<Option<usize>, Refus
 /// Counts the jobs of each subtree, and takes its first place, from the first job of the line to
 /// the last, so that all children of a job come before it. `lows` has the place of each job before.
 fn gather(parents: &[u32], row: &[u32], sizes: &mut [u32], lows: &mut [u32])
-    requires tree { Tree (jobs_in parents.now) (par_in parents.now) }
+    requires tree { TreeRow parents.now }
     requires line { Line (jobs_in parents.now) (par_in parents.now) row.now }
-    requires few { jobs_in parents.now ≤ 4095 }
     requires long { (jobs_in parents.now < length sizes.old) × (jobs_in parents.now < length lows.old) }
     requires clear { (k : ℕ) → slice_index sizes.old k ≡ 0 }
     requires placed { (k : ℕ) → In (jobs_in parents.now) k → slice_index lows.old k ≡ place k row.now }

@@ -1,9 +1,9 @@
-ghost use Rattle.std.specs.Prelude.{◌≡◌, ℕ, ◌+◌, ◌-◌, ◌<◌, ◌≤◌, length, take, drop, MatchResult, slice_index};
+ghost use Rattle.std.specs.Prelude.{◌≡◌, ℕ, ◌+◌, ◌-◌, ◌<◌, ◌≤◌, length, take, drop, MatchResult};
 ghost use Rattle.refusals.specs.Judged.{Judged};
 ghost use Rattle.trees.specs.Found.{jobs_in, par_in};
 ghost use Rattle.trees.specs.Lines.{Plain};
 ghost use Rattle.trees.specs.Sums.{In};
-ghost use Rattle.trees.specs.Trees.{ChainedTree};
+ghost use Rattle.trees.specs.Chains.{ChainsOf};
 ghost use Rattle.lines.specs.Faults.{RoomFault};
 ghost use Rattle.lines.specs.Walk.{Foremost};
 ghost use Rattle.lines.specs.Unique.{OnePlain};
@@ -36,7 +36,7 @@ pub fn plain_in(tree: &Parents, row: &mut [u32]) -> Result<(), Refusal>
 /// The job with which the plain line begins the subtree of `job`: down to first children while
 /// there are any.
 fn foremost(parents: &[u32], chains: &Chains, job: usize) -> usize
-    requires tree { ChainedTree (jobs_in parents.now) (par_in parents.now) (λ k. slice_index chains.now.first k) (λ k. slice_index chains.now.next k) }
+    requires tree { ChainsOf parents.now chains.now }
     requires job { In (jobs_in parents.now) job }
     ensures begins { Foremost (jobs_in parents.now) (par_in parents.now) job result }
     ensures inside { In (jobs_in parents.now) result }
@@ -51,7 +51,7 @@ fn foremost(parents: &[u32], chains: &Chains, job: usize) -> usize
 /// Writes each job as the walk leaves it: from the foremost job of the tree on to that of the next
 /// sibling's subtree, or up where there is none.
 fn write_line(parents: &[u32], chains: &Chains, row: &mut [u32])
-    requires tree { ChainedTree (jobs_in parents.now) (par_in parents.now) (λ k. slice_index chains.now.first k) (λ k. slice_index chains.now.next k) }
+    requires tree { ChainsOf parents.now chains.now }
     requires long { length row.old ≡ jobs_in parents.now }
     ensures { Plain (jobs_in parents.now) (par_in parents.now) row.new }
 {

@@ -4,15 +4,11 @@ use Rattle.trees.specs.Sums.{In}
 use Rattle.jobs.specs.declared.Job.{Job}
 use Rattle.peaks.specs.declared.walk.Walk.{Walk}
 use Rattle.peaks.specs.Stood.{Stands}
-use Rattle.peaks.specs.Walk.{Walking, Same, Passes}
+use Rattle.peaks.specs.Walk.{Walking, On, Same, Passes}
 
 module _ {S : Type 0} (w : ℕ) (read : S → ℕ → ℕ) (jobs : List (Job S)) (n : ℕ) (line : List ℕ) where
-  -- the walk goes over this line of these jobs
-  abbrev pub On : Walk S → Type 0
-  On s = (s.jobs.now ≡ jobs) × (s.n ≡ n) × (s.line.now ≡ line)
-
-  module _ (s t : Walk S) (walking : Walking w read s) (on : On s) where
-    pub on_still : Same s t → On t
+  module _ (s t : Walk S) (walking : Walking w read s) (on : On jobs n line s) where
+    pub on_still : Same s t → On jobs n line t
     on_still same = (same.jobs ∙ on.0, same.n ∙ on.1, same.line ∙ on.2)
 
     -- a step

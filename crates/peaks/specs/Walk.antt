@@ -1,7 +1,8 @@
 -- A line as it is run, position by position.
-use Rattle.std.specs.Prelude.{◌≡◌, ℕ, ◌+◌, ◌<◌, ◌≤◌, Option, MatchOption, slice_index}
+use Rattle.std.specs.Prelude.{◌≡◌, ℕ, List, ◌+◌, ◌<◌, ◌≤◌, Option, MatchOption}
 use Rattle.trees.specs.Lines.{Line}
-use Rattle.trees.specs.Trees.{Chained}
+use Rattle.trees.specs.Chains.{ChainedBy}
+use Rattle.jobs.specs.declared.Job.{Job}
 use Rattle.intake.specs.Faults.{par_of}
 use Rattle.intake.specs.Taken.{Sound}
 use Rattle.peaks.specs.declared.walk.Walk.{Walk}
@@ -11,10 +12,14 @@ use Rattle.peaks.specs.Stood.{Left, Stands}
 pub record Walking {S : Type 0} (w : ℕ) (read : S → ℕ → ℕ) (s : Walk S) : Type 0 where
   pub sound : Sound w read s.jobs.now s.n
   pub lined : Line s.n (par_of s.jobs.now s.n) s.line.now
-  pub chained : Chained s.n (par_of s.jobs.now s.n) (λ k. slice_index s.chains.first k) (λ k. slice_index s.chains.next k)
+  pub chained : ChainedBy s.n (par_of s.jobs.now s.n) s.chains
   pub begun : 1 ≤ s.position
   pub within : s.position ≤ s.n + 1
   pub lefts : Left read s.jobs.now s.n s.line.now s.before s.position
+
+-- the walk goes over this line of these jobs
+abbrev pub On : {S : Type 0} → List (Job S) → ℕ → List ℕ → Walk S → Type 0
+On jobs n line s = (s.jobs.now ≡ jobs) × (s.n ≡ n) × (s.line.now ≡ line)
 
 -- both go over the same line
 pub record Same {S : Type 0} (s t : Walk S) : Type 0 where

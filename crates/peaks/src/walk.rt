@@ -3,7 +3,7 @@ ghost use Rattle.std.specs.Iterator.{at_most};
 ghost use Rattle.refusals.specs.Judged.{Judged};
 ghost use Rattle.peaks.specs.Faults.{RunFault};
 ghost use Rattle.peaks.specs.Stood.{Passable};
-ghost use Rattle.peaks.specs.Walk.{Walking, Passes};
+ghost use Rattle.peaks.specs.Walk.{Walking, On, Passes};
 
 use super::add::{minus, plus};
 use super::inputs::inputs_of;
@@ -29,7 +29,7 @@ pub(crate) struct Walk<'a, K> {
 impl<'a, K: Amount> Walk<'a, K> {
     /// At the first position of the line of the jobs 1 to `n`.
     pub(crate) fn of(jobs: &'a [Job<K>], n: usize, line: &'a [u32]) -> Result<Walk<'a, K>, Refusal>
-        ensures { Judged (RunFault K.Amount.width K.Amount.reading jobs.now n line.now) (λ s. Walking K.Amount.width K.Amount.reading s × (s.jobs.now ≡ jobs.now) × (s.n ≡ n) × (s.line.now ≡ line.now) × (s.position ≡ 1)) result }
+        ensures { Judged (RunFault K.Amount.width K.Amount.reading jobs.now n line.now) (λ s. Walking K.Amount.width K.Amount.reading s × On jobs.now n line.now s × (s.position ≡ 1)) result }
     {
         let Survey { chains, .. } = survey_of(jobs, n, line)?;
         Ok(Walk {
@@ -71,6 +71,7 @@ impl<K: Amount> Iterator for Walk<'_, K> {
         }
         let i = self.line[position - 1] as usize;
         let given = inputs_of(self.jobs, self.n, &self.chains, i);
+        // by a name of its own: what a slice's type says is known of a variable, not of a field
         let jobs = self.jobs;
         let (stands, leaves) = pass(&jobs[i], &self.before, &given);
         self.position = position + 1;

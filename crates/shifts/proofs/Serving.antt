@@ -10,8 +10,8 @@ use Rattle.logs.specs.Logs.{Event, event, Tallied, paired}
 use Rattle.rules.specs.Duties.{Safe, Willing}
 use Rattle.rules.specs.Acts.{Acts}
 use Rattle.boards.specs.declared.board.Board.{Board}
-use Rattle.boards.specs.declared.opening.Plan.{Plan}
-use Rattle.boards.specs.Faults.{planned}
+use Rattle.boards.specs.declared.opening.Setup.{Setup}
+use Rattle.boards.specs.Faults.{as_opened}
 use Rattle.boards.specs.Course.{Led}
 use Rattle.boards.proofs.Courses.{along}
 use Rattle.shifts.specs.Shifts.{CarriedOut, Served, Opens, Shift, WholeShift, Answered}
@@ -76,11 +76,11 @@ module _ {R S : Type 0} (w : ℕ) (read : S → ℕ → ℕ) (acts : Acts R S) (
   carried o l d zs led = record { lawful = (along w read acts safe willing led).lawful; board = d; led = led }
 
   -- the board was opened under the rule r
-  module _ (b : Board S R) (r : R) (is : b.rule ≡ r) (xs : List (Job S)) (plan : Plan S) (d : Board S R) (zs : List (Job S)) (opens : Opens w read acts b.rule xs plan zs) where
-    pub opens_so : Opens w read acts r xs plan zs
-    opens_so = subst (λ v. Opens w read acts v xs plan zs) is opens
+  module _ (b : Board S R) (r : R) (is : b.rule ≡ r) (xs : List (Job S)) (setup : Setup S) (d : Board S R) (zs : List (Job S)) (opens : Opens w read acts b.rule xs setup zs) where
+    pub opens_so : Opens w read acts r xs setup zs
+    opens_so = subst (λ v. Opens w read acts v xs setup zs) is opens
 
-    pub shifted : (before after : List (Event S)) → Served w read acts (planned read xs plan) [] before after d zs → Shift w read acts r xs plan zs before after
+    pub shifted : (before after : List (Event S)) → Served w read acts (as_opened read xs setup) [] before after d zs → Shift w read acts r xs setup zs before after
     shifted before after s =
         record {
           opens = opens_so;
@@ -88,19 +88,19 @@ module _ {R S : Type 0} (w : ℕ) (read : S → ℕ → ℕ) (acts : Acts R S) (
           unentered = s.unentered;
           few = s.few;
           journaled = s.journaled;
-          carried = carried (planned read xs plan) (s.events ++ s.unentered) d zs s.led;
+          carried = carried (as_opened read xs setup) (s.events ++ s.unentered) d zs s.led;
         }
 
-    pub shifted_whole : (before after : List (Event S)) (t : Tally) (s : Served w read acts (planned read xs plan) [] before after d zs) → s.unentered ≡ [] → ((l : List (Event S)) → Led w read acts (planned read xs plan) l d zs → Tallied (planned read xs plan) l t) → WholeShift w read acts r xs plan zs before after t
+    pub shifted_whole : (before after : List (Event S)) (t : Tally) (s : Served w read acts (as_opened read xs setup) [] before after d zs) → s.unentered ≡ [] → ((l : List (Event S)) → Led w read acts (as_opened read xs setup) l d zs → Tallied (as_opened read xs setup) l t) → WholeShift w read acts r xs setup zs before after t
     shifted_whole before after t s all tells =
-        let led : Led w read acts (planned read xs plan) s.events d zs = subst (λ l. Led w read acts (planned read xs plan) l d zs) (ap (λ u. s.events ++ u) all ∙ append-nil s.events) s.led in
+        let led : Led w read acts (as_opened read xs setup) s.events d zs = subst (λ l. Led w read acts (as_opened read xs setup) l d zs) (ap (λ u. s.events ++ u) all ∙ append-nil s.events) s.led in
         record {
           opens = opens_so;
           events = s.events;
           journaled = s.journaled;
-          carried = carried (planned read xs plan) s.events d zs led;
+          carried = carried (as_opened read xs setup) s.events d zs led;
           tallied = tells s.events led;
         }
 
-    pub answered : (calls : List Call) (answers : List (Result (Answer S) Refusal)) → Led w read acts (planned read xs plan) (paired calls answers) d zs → Answered w read acts r xs plan zs calls answers
-    answered calls answers led = record { opens = opens_so; carried = carried (planned read xs plan) (paired calls answers) d zs led }
+    pub answered : (calls : List Call) (answers : List (Result (Answer S) Refusal)) → Led w read acts (as_opened read xs setup) (paired calls answers) d zs → Answered w read acts r xs setup zs calls answers
+    answered calls answers led = record { opens = opens_so; carried = carried (as_opened read xs setup) (paired calls answers) d zs led }

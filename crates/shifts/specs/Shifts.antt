@@ -10,8 +10,8 @@ use Rattle.logs.specs.Stands.{Opened}
 use Rattle.logs.specs.Logs.{Event, Tallied, paired, Lawful}
 use Rattle.rules.specs.Acts.{Acts}
 use Rattle.boards.specs.declared.board.Board.{Board}
-use Rattle.boards.specs.declared.opening.Plan.{Plan}
-use Rattle.boards.specs.Faults.{OpenFault, planned}
+use Rattle.boards.specs.declared.opening.Setup.{Setup}
+use Rattle.boards.specs.Faults.{OpenFault, as_opened}
 use Rattle.boards.specs.Course.{Led}
 
 module _ {R S : Type 0} (w : ℕ) (read : S → ℕ → ℕ) (acts : Acts R S) where
@@ -35,14 +35,14 @@ module _ {R S : Type 0} (w : ℕ) (read : S → ℕ → ℕ) (acts : Acts R S) w
   ServedBy o l before after d zs (Ok x) = (s : Served o l before after d zs) × (s.unentered ≡ [])
   ServedBy o l before after d zs (Err f) = Served o l before after d zs
 
-  -- r is the rule, xs the records and plan what is to be opened; zs are the records afterwards
-  module _ (r : R) (xs : List (Job S)) (plan : Plan S) (zs : List (Job S)) where
+  -- r is the rule, xs the records and setup what is to be opened; zs are the records afterwards
+  module _ (r : R) (xs : List (Job S)) (setup : Setup S) (zs : List (Job S)) where
     abbrev pub Opens : Type 0
-    Opens = (e : Refusal) → OpenFault w read acts r xs plan e → ⊥
+    Opens = (e : Refusal) → OpenFault w read acts r xs setup e → ⊥
 
     -- the opening is refused, and nothing has changed
     pub record NotOpened (e : Refusal) : Type 0 where
-      pub first : First (OpenFault w read acts r xs plan) e
+      pub first : First (OpenFault w read acts r xs setup) e
       pub same : zs ≡ xs
 
     -- The board was opened, and the calls that the desk entered in its journal were carried out, with the answers that it was told.
@@ -52,15 +52,15 @@ module _ {R S : Type 0} (w : ℕ) (read : S → ℕ → ℕ) (acts : Acts R S) w
       pub unentered : List (Event S)
       pub few : length unentered ≤ 1
       pub journaled : after ≡ before ++ events
-      pub carried : CarriedOut (planned read xs plan) (events ++ unentered) zs
+      pub carried : CarriedOut (as_opened read xs setup) (events ++ unentered) zs
 
     -- the same where the desk did not fail: every call is in the journal, and these are their counts
     pub record WholeShift (before after : List (Event S)) (t : Tally) : Type 0 where
       pub opens : Opens
       pub events : List (Event S)
       pub journaled : after ≡ before ++ events
-      pub carried : CarriedOut (planned read xs plan) events zs
-      pub tallied : Tallied (planned read xs plan) events t
+      pub carried : CarriedOut (as_opened read xs setup) events zs
+      pub tallied : Tallied (as_opened read xs setup) events t
 
     abbrev pub ShiftTold : {F : Type 0} → List (Event S) → List (Event S) → Result (Result Tally Refusal) F → Type 0
     ShiftTold before after (Ok (Ok t)) = WholeShift before after t
@@ -70,7 +70,7 @@ module _ {R S : Type 0} (w : ℕ) (read : S → ℕ → ℕ) (acts : Acts R S) w
     -- the board was opened, and the calls of the list were carried out, as many as have answers
     pub record Answered (calls : List Call) (answers : List (Result (Answer S) Refusal)) : Type 0 where
       pub opens : Opens
-      pub carried : CarriedOut (planned read xs plan) (paired calls answers) zs
+      pub carried : CarriedOut (as_opened read xs setup) (paired calls answers) zs
 
     abbrev pub CallsTold : {A F : Type 0} → List Call → Result (Result (Vec (Result (Answer S) Refusal) A) Refusal) F → Type 0
     CallsTold calls (Ok (Ok v)) = (length (vec_items v) ≡ length calls) × Answered calls (vec_items v)

@@ -6,7 +6,7 @@ ghost use Rattle.shifts.specs.Shifts.{ServedBy, ShiftTold, CallsTold};
 
 use super::desk::Desk;
 use amounts::Amount;
-use boards::{Board, Plan};
+use boards::{Board, Setup};
 use jobs::Job;
 use logs::{Answer, Call, Tally};
 use refusals::Refusal;
@@ -36,13 +36,13 @@ fn serve<K: Amount, R: Rule<K>, D: Desk<K>>(
 pub fn run_shift<K: Amount, R: Rule<K> + Drop, D: Desk<K>>(
     rule: R,
     jobs: &mut [Job<K>],
-    plan: &Plan<K>,
+    setup: &Setup<K>,
     desk: &mut D,
 ) -> Result<Result<Tally, Refusal>, D::Fault>
-    ensures { ShiftTold K.Amount.width K.Amount.reading R.Rule.acts rule jobs.old plan.now jobs.new (D.Desk.journal desk.old) (D.Desk.journal desk.new) result }
+    ensures { ShiftTold K.Amount.width K.Amount.reading R.Rule.acts rule jobs.old setup.now jobs.new (D.Desk.journal desk.old) (D.Desk.journal desk.new) result }
 {
     let mut board = Board::new(rule);
-    if let Err(refusal) = board.open(jobs, plan) {
+    if let Err(refusal) = board.open(jobs, setup) {
         return Ok(Err(refusal));
     }
     serve(&mut board, jobs, desk)?;
@@ -54,13 +54,13 @@ pub fn run_calls<K: Amount, R: Rule<K> + Drop>(
     heap: Global,
     rule: R,
     jobs: &mut [Job<K>],
-    plan: &Plan<K>,
+    setup: &Setup<K>,
     calls: &[Call],
 ) -> Result<Result<Vec<Result<Answer<K>, Refusal>>, Refusal>, AllocError>
-    ensures { CallsTold K.Amount.width K.Amount.reading R.Rule.acts rule jobs.old plan.now jobs.new calls.now result }
+    ensures { CallsTold K.Amount.width K.Amount.reading R.Rule.acts rule jobs.old setup.now jobs.new calls.now result }
 {
     let mut board = Board::new(rule);
-    if let Err(refusal) = board.open(jobs, plan) {
+    if let Err(refusal) = board.open(jobs, setup) {
         return Ok(Err(refusal));
     }
     let mut answers = Vec::new(heap);

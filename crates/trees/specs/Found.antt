@@ -1,9 +1,9 @@
 -- What a search over the jobs 1 to n finds.
-use Rattle.std.specs.Prelude.{◌≡◌, ℕ, ◌-◌, ◌<◌, ◌⊎◌, List, length, Option, MatchOption, Ok, Err, Result, ◌≢◌, slice_index}
+use Rattle.std.specs.Prelude.{◌≡◌, ℕ, ◌-◌, ◌<◌, ◌≤◌, ◌⊎◌, List, length, Option, MatchOption, Ok, Err, Result, ◌≢◌, slice_index}
 use Rattle.refusals.specs.declared.Refusal.{Refusal}
 use Rattle.refusals.specs.declared.Refusal.TheVariants.{NoRoot, SecondRoot}
 use Rattle.trees.specs.Sums.{In}
-use Rattle.trees.specs.Trees.{Reaches}
+use Rattle.trees.specs.Trees.{Reaches, Tree}
 
 -- A row of parents: that of job k stands at k, and the first cell is spare.
 abbrev pub jobs_in : List ℕ → ℕ
@@ -12,10 +12,21 @@ jobs_in parents = length parents - 1
 abbrev pub par_in : List ℕ → ℕ → ℕ
 par_in parents k = slice_index parents k
 
+-- the row has the parents of a tree of at most 4,095 jobs
+pub record TreeRow (parents : List ℕ) : Type 0 where
+  pub some : 1 ≤ jobs_in parents
+  pub few : jobs_in parents ≤ 4095
+  pub tree : Tree (jobs_in parents) (par_in parents)
+
 -- r is the lowest job at which P holds; none if it holds at no job
 abbrev pub Lowest : ℕ → (ℕ → Type 0) → Option ℕ → Type 0
 Lowest n P r =
     MatchOption r ((k : ℕ) → In n k → P k → ⊥) (λ i. In n i × P i × ((k : ℕ) → In n k → k < i → P k → ⊥))
+
+-- the same from job a on
+abbrev pub LowestFrom : ℕ → ℕ → (ℕ → Type 0) → Option ℕ → Type 0
+LowestFrom a n P r =
+    MatchOption r ((k : ℕ) → a ≤ k → k ≤ n → P k → ⊥) (λ i. (a ≤ i) × (i ≤ n) × P i × ((k : ℕ) → a ≤ k → k < i → P k → ⊥))
 
 -- r is the lowest job from which the way up never ends; none if each ends
 abbrev pub Lost : ℕ → (ℕ → ℕ) → Option ℕ → Type 0

@@ -5,3 +5,4 @@ pub mod Standing
 pub mod Faults
 pub mod Found
 pub mod Marks
+pub mod Chains

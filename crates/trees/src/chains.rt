@@ -1,8 +1,9 @@
 ghost use Rattle.std.specs.Prelude.{◌≡◌, ℕ, ◌-◌, ◌<◌, ◌≤◌, length, slice_index};
 ghost use Rattle.refusals.specs.Judged.{Judged};
-ghost use Rattle.trees.specs.Trees.{Tree, ChainedTree, ChainedWhole};
+ghost use Rattle.trees.specs.Chains.{ChainsOf};
+ghost use Rattle.trees.specs.Trees.{ChainedWhole};
 ghost use Rattle.trees.specs.Faults.{ParentFault};
-ghost use Rattle.trees.specs.Found.{jobs_in, par_in};
+ghost use Rattle.trees.specs.Found.{jobs_in, par_in, TreeRow};
 
 use super::parents::Parents;
 use refusals::Refusal;
@@ -17,7 +18,7 @@ pub struct Chains {
 
 /// Links the jobs from the last down, so that each comes in front of its higher siblings.
 fn link(parents: &[u32], first: &mut [u32], next: &mut [u32])
-    requires tree { (jobs_in parents.now ≤ 4095) × Tree (jobs_in parents.now) (par_in parents.now) }
+    requires tree { TreeRow parents.now }
     requires room { (length parents.now ≤ length first.old) × (length parents.now ≤ length next.old) }
     requires clear { (k : ℕ) → (slice_index first.old k ≡ 0) × (slice_index next.old k ≡ 0) }
     ensures { ChainedWhole (jobs_in parents.now) (par_in parents.now) (λ k. slice_index first.new k) (λ k. slice_index next.new k) }
@@ -32,7 +33,7 @@ fn link(parents: &[u32], first: &mut [u32], next: &mut [u32])
 impl Parents {
     /// The chains of the tree.
     pub fn chains(&self) -> Chains
-        ensures { ChainedTree (jobs_in self.now) (par_in self.now) (λ k. slice_index result.first k) (λ k. slice_index result.next k) }
+        ensures { ChainsOf self.now result }
     {
         let mut first = [0u32; 4096];
         let mut next = [0u32; 4096];
@@ -43,7 +44,7 @@ impl Parents {
 
 /// The chains of the tree that the parents make.
 pub fn chains_of(parents: &[u32]) -> Result<Chains, Refusal>
-    ensures { Judged (ParentFault (jobs_in parents.now) (par_in parents.now)) (λ c. ChainedTree (jobs_in parents.now) (par_in parents.now) (λ k. slice_index c.first k) (λ k. slice_index c.next k)) result }
+    ensures { Judged (ParentFault (jobs_in parents.now) (par_in parents.now)) (ChainsOf parents.now) result }
 {
     Ok(Parents::of(parents)?.chains())
 }

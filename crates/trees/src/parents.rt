@@ -1,9 +1,8 @@
-ghost use Rattle.std.specs.Prelude.{◌≡◌, ℕ, List, ◌+◌, ◌-◌, ◌<◌, ◌≤◌, length, take, MatchOption};
+ghost use Rattle.std.specs.Prelude.{◌≡◌, ℕ, List, ◌+◌, ◌-◌, ◌<◌, ◌≤◌, length, take};
 ghost use Rattle.refusals.specs.Judged.{Judged};
-ghost use Rattle.trees.specs.Sums.{In};
 ghost use Rattle.trees.specs.Trees.{Tree};
 ghost use Rattle.trees.specs.Faults.{ParentFault};
-ghost use Rattle.trees.specs.Found.{jobs_in, par_in, Lowest, Roots};
+ghost use Rattle.trees.specs.Found.{jobs_in, par_in, TreeRow, Lowest, LowestFrom, Roots};
 
 use super::reach::lowest_unreached;
 use refusals::{MOST_JOBS, Refusal};
@@ -28,7 +27,7 @@ impl Model for Parents {
 impl Parents {
     /// A copy of the row, where it makes a tree.
     pub fn of(row: &[u32]) -> Result<Parents, Refusal>
-        ensures { Judged (ParentFault (jobs_in row.now) (par_in row.now)) (λ t. (t ≡ row.now) × (1 ≤ jobs_in row.now) × (jobs_in row.now ≤ 4095) × Tree (jobs_in row.now) (par_in row.now)) result }
+        ensures { Judged (ParentFault (jobs_in row.now) (par_in row.now)) (λ t. (t ≡ row.now) × TreeRow row.now) result }
     {
         let jobs = row.len().saturating_sub(1);
         if jobs == 0 || jobs > MOST_JOBS {
@@ -49,7 +48,7 @@ impl Parents {
     /// The parents, from the spare cell on.
     pub fn row(&self) -> &[u32]
         ensures row { result.now ≡ self.now }
-        ensures tree { (1 ≤ jobs_in self.now) × (jobs_in self.now ≤ 4095) × Tree (jobs_in self.now) (par_in self.now) }
+        ensures tree { TreeRow self.now }
     {
         &self.cells[..self.jobs + 1]
     }
@@ -57,7 +56,7 @@ impl Parents {
     /// The number of jobs.
     pub fn jobs(&self) -> usize
         ensures count { result ≡ jobs_in self.now }
-        ensures tree { (1 ≤ jobs_in self.now) × (jobs_in self.now ≤ 4095) × Tree (jobs_in self.now) (par_in self.now) }
+        ensures tree { TreeRow self.now }
     {
         self.jobs
     }
@@ -81,7 +80,7 @@ fn lowest_missing(parents: &[u32]) -> Option<usize>
 /// The first job from `start` on that has no parent.
 fn next_root(parents: &[u32], start: usize) -> Option<usize>
     requires { 1 ≤ start }
-    ensures { MatchOption result ((k : ℕ) → start ≤ k → k ≤ jobs_in parents.now → par_in parents.now k ≡ 0 → ⊥) (λ i. (start ≤ i) × (i ≤ jobs_in parents.now) × (par_in parents.now i ≡ 0) × ((k : ℕ) → start ≤ k → k < i → par_in parents.now k ≡ 0 → ⊥)) }
+    ensures { LowestFrom start (jobs_in parents.now) (λ k. par_in parents.now k ≡ 0) result }
 {
     (start..parents.len()).find(|&job| parents[job] == 0)
 }

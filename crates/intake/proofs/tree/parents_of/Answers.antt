@@ -1,7 +1,7 @@
 use Rattle.std.proofs.Common.{◌≡◌, ℕ, ◌+◌, ◌<◌, ◌≤◌, List, length, take, replicate, Result, Ok, Err, ◌∙◌, inl, inr, arith}
 use Rattle.refusals.specs.Judged.{First, Judged}
 use Rattle.refusals.specs.declared.Refusal.{Refusal}
-use Rattle.trees.specs.Found.{jobs_in, par_in}
+use Rattle.trees.specs.Found.{jobs_in, par_in, TreeRow}
 use Rattle.trees.specs.Sums.{In}
 use Rattle.trees.specs.Trees.{Tree}
 use Rattle.trees.specs.Faults.{ParentFault}
@@ -35,11 +35,11 @@ returns-in-Some g c =
 -- what the check of the parents says of the records
 settled : {S : Type 0} (w : ℕ) (read : S → ℕ → ℕ) (xs : List (Job S)) (n : ℕ) → 1 ≤ n → n ≤ 4095 → n < length xs → w ≤ 64 → ((k : ℕ) → In n k → Above w read xs k → ⊥)
     → (row : List ℕ) → row ≡ parent_row xs n → (r : Result (List ℕ) Refusal)
-    → Judged (ParentFault (jobs_in row) (par_in row)) (λ t. (t ≡ row) × (1 ≤ jobs_in row) × (jobs_in row ≤ 4095) × Tree (jobs_in row) (par_in row)) r
+    → Judged (ParentFault (jobs_in row) (par_in row)) (λ t. (t ≡ row) × TreeRow row) r
     → Judged (TreeFault w read xs n) (λ t. Sound w read xs n × (t ≡ parent_row xs n)) r
 settled w read xs n some few room narrow held row e (Ok t) (none, is) = (
   no_fault w read xs n some few room narrow held (by_row xs n room (λ m par. (d : Refusal) → ParentFault m par d → ⊥) row e none),
-  (record { some = some; few = few; records = room; axes = narrow; bounds = held; tree = by_row xs n room Tree row e is.3 }, is.0 ∙ e),
+  (record { some = some; few = few; records = room; axes = narrow; bounds = held; tree = by_row xs n room Tree row e is.1.tree }, is.0 ∙ e),
 )
 settled w read xs n some few room narrow held row e (Err d) first =
     first_parents w read xs n some few room narrow held d (by_row xs n room (λ m par. First (ParentFault m par) d) row e first)

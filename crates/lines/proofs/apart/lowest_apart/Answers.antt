@@ -10,7 +10,7 @@ pub gather-requires : goal.gather-requires
 gather-requires c =
     let h = c.in_ok-places.ensures in
     let few = line_few _ _ _ h.0 in
-    record { tree = h.1.tree; line = h.1.line; few = few; long = (omega arith, search rules); clear = blank 4096; placed = h.1.placed }
+    record { tree = record { some = omega (arith, h.1.tree.top_in); few = few; tree = h.1.tree }; line = h.1.line; long = (omega arith, search rules); clear = blank 4096; placed = h.1.placed }
 
 pub first_apart-requires : goal.first_apart-requires
 first_apart-requires c =

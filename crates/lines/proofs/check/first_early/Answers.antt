@@ -13,4 +13,4 @@ returns c =
     let at : ℕ → ℕ = λ k. get_or c.args.places.now k 0 in
     let here : length c.row-parents.result.now - 1 ≡ n = ap jobs_in c.row-parents.ensures.row in
     let found = min_from_yields_List _ c.min.result c.min.ensures.ran (YieldsList-from_filter_map _ (early n par at) (YieldsList-from_range 1 (length c.row-parents.result.now) n (cc) here) c.filter_map.ensures.closure (λ x r q k. search (rules, tests))) in
-    earliest n par at c.row-parents.ensures.tree.2.parents c.requires.placed c.min.result (rw (sym found ∙ option_map_id c.min.result) at (least (early n par at) n 1))
+    earliest n par at c.row-parents.ensures.tree.tree.parents c.requires.placed c.min.result (rw (sym found ∙ option_map_id c.min.result) at (least (early n par at) n 1))

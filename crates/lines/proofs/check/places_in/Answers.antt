@@ -10,7 +10,7 @@ pub returns-in-Some : goal.returns-in-Some
 returns-in-Some c =
     let tree = c.jobs.ensures.tree in
     let h = rw c.jobs.ensures.count at c.in-Some.ensures.lowest in
-    entry_first _ _ _ (tree_none _ _ tree.0 tree.1 tree.2) c.in-Some.position h.1 h.2
+    entry_first _ _ _ (tree_none _ _ tree.some tree.few tree.tree) c.in-Some.position h.1 h.2
 
 pub first_early-requires-clause-placed : goal.first_early-requires-clause-placed
 first_early-requires-clause-placed c =
@@ -21,12 +21,12 @@ returns-in-Some-first_early c =
     let tree = c.jobs.ensures.tree in
     let e = rw c.jobs.ensures.count at c.in_default.ensures.entered in
     let h = c.in-Some-first_early.ensures in
-    order_first _ _ _ (tree_none _ _ tree.0 tree.1 tree.2) tree.2 _ e c.in-Some-first_early.position h.1 h.2
+    order_first _ _ _ (tree_none _ _ tree.some tree.few tree.tree) tree.tree _ e c.in-Some-first_early.position h.1 h.2
 
 pub returns : goal.returns
 returns c =
     let tree = c.jobs.ensures.tree in
-    let none = tree_none _ _ tree.0 tree.1 tree.2 in
+    let none = tree_none _ _ tree.some tree.few tree.tree in
     let e = rw c.jobs.ensures.count at c.in_default.ensures.entered in
     let h = c.in_default-first_early.ensures in
-    (line_none _ _ _ none tree.2 _ e h, line_placed _ _ _ none tree.2 _ e h)
+    (line_none _ _ _ none tree.tree _ e h, line_placed _ _ _ none tree.tree _ e h)

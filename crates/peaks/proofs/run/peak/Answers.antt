@@ -8,7 +8,7 @@ use Rattle.peaks.proofs.run.peak.Goals as goal
 pub loop-stands-init : goal.loop-stands-init
 loop-stands-init g c =
     let good = c.in_ok-items.ensures.1 in
-    rw c.into_iter-stands-iterator.ensures.into_iter_gives (good.0, tt, (good.1, good.2, good.3), λ a. c.zero-most.ensures a ∙ sym (ap (λ p. greatest (stand g.K.Amount.reading c.args.jobs.now c.args.n c.args.line.now a) (p - 1)) good.4))
+    rw c.into_iter-stands-iterator.ensures.into_iter_gives (good.0, tt, good.1, λ a. c.zero-most.ensures a ∙ sym (ap (λ p. greatest (stand g.K.Amount.reading c.args.jobs.now c.args.n c.args.line.now a) (p - 1)) good.2))
 
 pub loop-stands-preserved : goal.loop-stands-preserved
 loop-stands-preserved g c =

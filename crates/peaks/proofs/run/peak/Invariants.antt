@@ -1,7 +1,7 @@
 use Rattle.std.proofs.Common.{◌≡◌, ℕ, ◌-◌}
 use Rattle.trees.specs.Sums.{greatest}
 use Rattle.peaks.specs.Stood.{stand}
-use Rattle.peaks.proofs.Walked.{On}
+use Rattle.peaks.specs.Walk.{On}
 use Rattle.peaks.proofs.run.peak.Given as goal
 
 abbrev pub invariant-loop-stands : goal.invariant-loop-stands
@@ -9,5 +9,5 @@ invariant-loop-stands g l =
     let s = l.stands-iterator in
     (goal.iterator-loop-stands g).can_next s
     × (goal.iterator-loop-stands g).is_finite s
-    × On g.K.Amount.width g.K.Amount.reading l.jobs l.n l.line s
+    × On l.jobs l.n l.line s
     × ((a : ℕ) → g.K.Amount.reading l.most a ≡ greatest (stand g.K.Amount.reading l.jobs l.n l.line a) (s.position - 1))

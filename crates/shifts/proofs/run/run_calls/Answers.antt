@@ -2,7 +2,7 @@ use Rattle.std.proofs.Common.{◌+◌, [], ◌∷◌, ◌++◌, length, vec_item
 use Rattle.std.proofs.lemmas.List.{length_push}
 use Rattle.std.proofs.lemmas.Result.{err_from_is_err_and}
 use Rattle.logs.specs.Logs.{paired}
-use Rattle.boards.specs.Faults.{planned}
+use Rattle.boards.specs.Faults.{as_opened}
 use Rattle.boards.specs.Course.{Led}
 use Rattle.shifts.proofs.Serving.{paired_none, log_more, answered}
 use Rattle.shifts.proofs.run.run_calls.Goals as goal
@@ -35,11 +35,11 @@ returns-in_err-push g c =
     let calls = c.args.calls.now in
     let answers = vec_items c.loop-call.answers in
     let i = c.loop-call.call-index in
-    let o = planned g.K.Amount.reading c.args.jobs.now c.args.plan.now in
+    let o = as_opened g.K.Amount.reading c.args.jobs.now c.args.setup.now in
     let led = c.loop-call.invariant.1 o [] good.1 in
     rw p.1 (
       answers ++ c.call.result ∷ [],
-      answered g.K.Amount.width g.K.Amount.reading g.R.Rule.acts g.met.R.Rule.safe g.met.R.Rule.willing c.new-board.result c.args.rule c.new-board.ensures.0 c.args.jobs.now c.args.plan.now c.call.new.self c.call.new.jobs good.0 calls (answers ++ c.call.result ∷ [])
+      answered g.K.Amount.width g.K.Amount.reading g.R.Rule.acts g.met.R.Rule.safe g.met.R.Rule.willing c.new-board.result c.args.rule c.new-board.ensures.0 c.args.jobs.now c.args.setup.now c.call.new.self c.call.new.jobs good.0 calls (answers ++ c.call.result ∷ [])
           (subst (λ v. Led g.K.Amount.width g.K.Amount.reading g.R.Rule.acts o v c.call.new.self c.call.new.jobs) (log_more [] calls answers i _ c.call.result c.loop-call.invariant.0 c.loop-call-test.true) (c.call.ensures.follows _ _ led).led),
     )
 
@@ -47,5 +47,5 @@ pub returns : goal.returns
 returns g c =
     let good = c.in_default.ensures.judged in (
       omega (arith, c.loop-call.invariant.0),
-      answered g.K.Amount.width g.K.Amount.reading g.R.Rule.acts g.met.R.Rule.safe g.met.R.Rule.willing c.new-board.result c.args.rule c.new-board.ensures.0 c.args.jobs.now c.args.plan.now c.loop-call.board c.loop-call.jobs good.0 c.args.calls.now (vec_items c.loop-call.answers) (c.loop-call.invariant.1 _ [] good.1),
+      answered g.K.Amount.width g.K.Amount.reading g.R.Rule.acts g.met.R.Rule.safe g.met.R.Rule.willing c.new-board.result c.args.rule c.new-board.ensures.0 c.args.jobs.now c.args.setup.now c.loop-call.board c.loop-call.jobs good.0 c.args.calls.now (vec_items c.loop-call.answers) (c.loop-call.invariant.1 _ [] good.1),
     )

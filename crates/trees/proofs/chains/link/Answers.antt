@@ -10,7 +10,7 @@ loop-job-preserved c =
     let job = c.loop-job.job in
     let back : job ≡ job - 1 + 1 = omega arith in
     let here : In (jobs_in parents) (job - 1) = (omega arith, omega arith) in
-    let inside = c.requires.tree.1.parents (job - 1) here in
+    let inside = c.requires.tree.tree.parents (job - 1) here in
     linked_more (jobs_in parents) (par_in parents) c.loop-job.first c.loop-job.next (job - 1) here inside (omega arith) (omega arith)
     (subst (Linked (jobs_in parents) (par_in parents) c.loop-job.first c.loop-job.next) back c.loop-job.invariant)
 

@@ -7,29 +7,29 @@ use Rattle.rules.specs.Reached.{GrantedOpening}
 use Rattle.rules.specs.Records.{opened_of, unused, Alike}
 use Rattle.boards.specs.Course.{Course}
 use Rattle.boards.specs.Course.Course.{opens}
-use Rattle.boards.specs.declared.opening.Plan.{Plan}
-use Rattle.boards.specs.Faults.{planned}
+use Rattle.boards.specs.declared.opening.Setup.{Setup}
+use Rattle.boards.specs.Faults.{as_opened}
 use Rattle.boards.specs.Faults.OpenFault.{unbounded, unruled, exceeded}
 use Rattle.peaks.specs.Halls.BoundFault.{unbenched, unfloored}
 use Rattle.boards.proofs.board.Board.open.Goals as goal
 
 -- the log begins with a hall where nothing has been granted yet
-begins : {R S : Type 0} (w : ℕ) (read : S → ℕ → ℕ) (acts : Acts R S) (r s : R) (xs ys zs : List (Job S)) (plan : Plan S) (h : Hall S)
-    → h ≡ unused plan.jobs plan.benches plan.floor h.held → (GrantedOpening w read acts r xs plan.line.now h ys → acts.opened r h ys plan.line.now s zs) → Alike h.jobs ys zs
-    → GrantedOpening w read acts r xs plan.line.now (unused plan.jobs plan.benches plan.floor h.held) ys → Course w read acts (planned read xs plan) [] s h zs
-begins w read acts r s xs ys zs plan h is told alike granted =
-    let opening = subst (λ g. GrantedOpening w read acts r xs plan.line.now g ys) (sym is) granted in
-    subst (λ o. Course w read acts o [] s h zs) (ap (λ g. opened_of read g xs) is) (opens r s xs ys zs plan.line.now h opening (told opening) alike)
+begins : {R S : Type 0} (w : ℕ) (read : S → ℕ → ℕ) (acts : Acts R S) (r s : R) (xs ys zs : List (Job S)) (setup : Setup S) (h : Hall S)
+    → h ≡ unused setup.jobs setup.benches setup.floor h.held → (GrantedOpening w read acts r xs setup.line.now h ys → acts.opened r h ys setup.line.now s zs) → Alike h.jobs ys zs
+    → GrantedOpening w read acts r xs setup.line.now (unused setup.jobs setup.benches setup.floor h.held) ys → Course w read acts (as_opened read xs setup) [] s h zs
+begins w read acts r s xs ys zs setup h is told alike granted =
+    let opening = subst (λ g. GrantedOpening w read acts r xs setup.line.now g ys) (sym is) granted in
+    subst (λ o. Course w read acts o [] s h zs) (ap (λ g. opened_of read g xs) is) (opens r s xs ys zs setup.line.now h opening (told opening) alike)
 
 pub returns : goal.returns
 returns g c =
     let good = c.in_ok-survey.ensures in
     let survey = good.1 in
-    let plan = c.args.plan.now in
+    let setup = c.args.setup.now in
     let hall = c.new-self in
-    let some : 1 ≤ plan.benches = elim (cases_lt 0 plan.benches) [ inl h ↦ h | inr h ↦ absurd (good.0 _ (unbounded (unbenched (inl (omega arith))))) ] in
-    let few : plan.benches ≤ 64 = elim (cases_lt 64 plan.benches) [ inl h ↦ absurd (good.0 _ (unbounded (unbenched (inr h)))) | inr h ↦ h ] in
-    let granted : GrantedOpening g.K.Amount.width g.K.Amount.reading g.R.Rule.acts c.args.self.now.rule c.args.jobs.now plan.line.now (unused plan.jobs plan.benches plan.floor hall.result.held) c.lay.new.jobs =
+    let some : 1 ≤ setup.benches = elim (cases_lt 0 setup.benches) [ inl h ↦ h | inr h ↦ absurd (good.0 _ (unbounded (unbenched (inl (omega arith))))) ] in
+    let few : setup.benches ≤ 64 = elim (cases_lt 64 setup.benches) [ inl h ↦ absurd (good.0 _ (unbounded (unbenched (inr h)))) | inr h ↦ h ] in
+    let granted : GrantedOpening g.K.Amount.width g.K.Amount.reading g.R.Rule.acts c.args.self.now.rule c.args.jobs.now setup.line.now (unused setup.jobs setup.benches setup.floor hall.result.held) c.lay.new.jobs =
     record {
       sound = survey.sound;
       lined = survey.lined;
@@ -37,7 +37,7 @@ returns g c =
       floored = λ h. good.0 _ (unbounded (unfloored h));
       ruled = λ e h. good.0 e (unruled h);
       fitting = λ p i over. good.0 _ (exceeded p i over);
-      laid = c.lay.ensures plan.line.now survey;
+      laid = c.lay.ensures setup.line.now survey;
       empty = refl;
       nothing = hall.ensures.nothing;
       unstarted = refl;
@@ -46,7 +46,7 @@ returns g c =
     record {
       judged = (
         good.0,
-        begins g.K.Amount.width g.K.Amount.reading g.R.Rule.acts c.args.self.now.rule c.opening.new.self c.args.jobs.now c.lay.new.jobs c.opening.new.jobs plan hall.result hall.ensures.unused (c.opening.ensures.told c.args.jobs.now) c.opening.ensures.kept granted,
+        begins g.K.Amount.width g.K.Amount.reading g.R.Rule.acts c.args.self.now.rule c.opening.new.self c.args.jobs.now c.lay.new.jobs c.opening.new.jobs setup hall.result hall.ensures.unused (c.opening.ensures.told c.args.jobs.now) c.opening.ensures.kept granted,
       );
       still = tt;
     }

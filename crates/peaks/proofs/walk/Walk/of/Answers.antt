@@ -15,9 +15,7 @@ returns g c =
           within = omega arith;
           lefts = left_first g.K.Amount.reading c.args.jobs.now c.args.n c.args.line.now c.zero.result c.zero.ensures;
         },
-        refl,
-        refl,
-        refl,
+        (refl, refl, refl),
         refl,
       ),
     )

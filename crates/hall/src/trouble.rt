@@ -49,6 +49,6 @@ impl From<AllocError> for Trouble {
     ghost from_gives = { λ _ r. r ≡ OutOfMemory };
 
     fn from(_e: AllocError) -> Trouble {
-        Trouble::OutOfMemory
+        Self::OutOfMemory
     }
 }

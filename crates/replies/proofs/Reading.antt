@@ -3,18 +3,8 @@ use Rattle.std.proofs.Common.{◌≡◌, ℕ, ◌+◌, ◌-◌, ◌*◌, ◌<◌
 use Rattle.std.proofs.lemmas.List.{drop_more}
 use Rattle.std.proofs.lemmas.Bool.{cases_Bool, cases_eq, cond-true, cond-false}
 use Rattle.std.proofs.lemmas.Bool.Decides.{nat_tests}
-use Rattle.std.specs.Char.{IsDigitOf}
 use Rattle.prints.specs.Decimal.{digit, decimal}
 use Rattle.prints.proofs.Numeral.{lead, past, decimal_zero, decimal_push, decimal_digit, decimal_first, decimal_first_digit, past_decimal}
-
--- what `to_digit` tells of a byte
-pub no_digit : (c : ℕ) → (48 ≤ c → c ≤ 57 → 58 ≤ c) → digit c ≡ false
-no_digit c h = grind (arith, nat_tests)
-
-pub is_digit : (c d : ℕ) → IsDigitOf c d → d < 10 → (digit c ≡ true) × (d ≡ c - 48)
-is_digit c d (inl h) low = (grind (arith, nat_tests), omega arith)
-is_digit c d (inr (inl h)) low = absurd (omega arith)
-is_digit c d (inr (inr h)) low = absurd (omega arith)
 
 -- what stands before `rest` are digits, and they write n
 pub record Read (all : List ℕ) (n : ℕ) (rest : List ℕ) : Type 0 where
@@ -26,8 +16,11 @@ module _ (all : List ℕ) (n i : ℕ) (lt : i < length all) (r : Read all n (dro
   next : Read all n (get_or all i 0 ∷ drop (i + 1) all)
   next = subst (Read all n) (drop_more all i 0 lt) r
 
-  pub read_more : digit (get_or all i 0) ≡ true → Read all (n * 10 + (get_or all i 0 - 48)) (drop (i + 1) all)
-  read_more d = record { number = next.number ∙ cond-true _ _ _ d; behind = next.behind ∙ cond-true _ _ _ d }
+  pub read_more : (d : ℕ) → d < 10 → get_or all i 0 ≡ 48 + d → Read all (n * 10 + d) (drop (i + 1) all)
+  read_more d low is =
+      let t : digit (get_or all i 0) ≡ true = grind (arith, nat_tests) in
+      let v : get_or all i 0 - 48 ≡ d = omega arith in
+      record { number = next.number ∙ cond-true _ _ _ t ∙ ap (λ x. lead (n * 10 + x) (drop (i + 1) all)) v; behind = next.behind ∙ cond-true _ _ _ t }
 
   pub read_stopped : digit (get_or all i 0) ≡ false → (m : ℕ) → all ≡ decimal m → ⊥
   read_stopped d m e =

@@ -3,6 +3,7 @@ ghost use Rattle.prints.specs.Decimal.{decimal};
 ghost use Rattle.replies.specs.Words.{held_number, LineOf};
 
 use logs::Call;
+use prints::digit_of;
 
 /// The number that the digits write, if they are the digits of one, with no leading zero. A number
 /// too large for a `usize` is cut to the largest: no board has so many benches or jobs, so the cut
@@ -16,8 +17,8 @@ fn number_of(digits: &[u8]) -> Option<usize>
     }
     let mut number: usize = 0;
     for digit in digits {
-        let value = char::from(*digit).to_digit(10)? as usize;
-        number = number.saturating_mul(10).saturating_add(value);
+        let value = digit_of(*digit)?;
+        number = number.saturating_mul(10).saturating_add(usize::from(value));
     }
     Some(number)
 }

@@ -5,14 +5,14 @@ use Rattle.std.proofs.lemmas.Bool.{false≢true, cases_eq, cases_lt}
 use Rattle.amounts.specs.declared.amount.Amount.{Ghosts}
 use Rattle.refusals.specs.declared.Refusal.{Refusal}
 use Rattle.refusals.specs.declared.Refusal.TheVariants.{TextByte, TextNumber}
-use Rattle.prints.specs.Decimal.{digit, decimal}
+use Rattle.prints.specs.Decimal.{digit, DigitOf, decimal}
 use Rattle.prints.specs.Places.{line_at, column_at}
 use Rattle.prints.specs.Runs.{Letter}
 use Rattle.prints.specs.Parts.{byte, letter, number, Apart, Stands}
 use Rattle.prints.specs.Faults.{UnfitAt, Refused, unfit, above}
 use Rattle.prints.proofs.Numeral.{decimal_zero, decimal_digit, decimal_push, decimal_first_digit}
 use Rattle.prints.proofs.Standing.{byte_on, byte_unfit, letter_on, letter_unfit, number_on, number_above, number_unfit}
-use Rattle.texts.specs.Steps.{DigitOf, Accepts, Moved, Any, Came, Stopped, Reads}
+use Rattle.texts.specs.Steps.{Accepts, Moved, Any, Came, Stopped, Reads}
 use Rattle.texts.specs.Records.{letter_of}
 use Rattle.texts.specs.declared.heading.Rule.{Rule}
 use Rattle.texts.specs.declared.heading.Rule.TheVariants.{Line, Booking}

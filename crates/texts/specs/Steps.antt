@@ -1,17 +1,11 @@
 -- What a step of the reader says: from r it came to r', and what it took on the way.
-use Rattle.std.specs.Prelude.{◌≡◌, ℕ, false, ◌+◌, ◌<◌, ◌≤◌, cond, List, [], ◌++◌, length, take, Some, None, Ok, Err, Option, Result, IfOk, IfErr, ◌==◌, slice_index}
+use Rattle.std.specs.Prelude.{◌≡◌, ℕ, ◌+◌, ◌<◌, ◌≤◌, cond, List, [], ◌++◌, length, take, Some, None, Ok, Err, Option, Result, IfOk, IfErr, ◌==◌, slice_index}
 use Rattle.amounts.specs.declared.amount.Amount.{Ghosts}
 use Rattle.refusals.specs.declared.Refusal.{Refusal}
 use Rattle.refusals.specs.declared.Refusal.TheVariants.{TextByte}
-use Rattle.prints.specs.Decimal.{digit}
 use Rattle.prints.specs.Parts.{Part, Stands}
 use Rattle.prints.specs.Faults.{Refused}
 use Rattle.texts.specs.declared.reader.Reader.{Reader}
-
--- the digit that the byte is, if it is one
-abbrev pub DigitOf : ℕ → Option ℕ → Type 0
-DigitOf c (Some d) = (d < 10) × (c ≡ 48 + d)
-DigitOf c None = digit c ≡ false
 
 -- from p to q stand the bytes xs
 pub record Moved (bs : List ℕ) (p q : ℕ) (xs : List ℕ) : Type 0 where

@@ -2,16 +2,17 @@
 //! them in every text that stood before it; or it refuses every such text.
 ghost use Rattle.std.specs.Prelude.{◌≡◌, ℕ, ◌+◌, ◌-◌, ◌<◌, ◌≤◌, true, false, [], ◌∷◌, ◌++◌, map, length, IfOk, MatchOption, MatchResult, nat_lt, slice_index};
 ghost use Rattle.refusals.specs.declared.Refusal.TheVariants.{TextByte};
-ghost use Rattle.prints.specs.Decimal.{digit as isDigit, decimal};
+ghost use Rattle.prints.specs.Decimal.{digit as is_digit, DigitOf, decimal};
 ghost use Rattle.prints.specs.Runs.{marked, lines, text_of, AmountHeld, LineHeld, RunHeld};
-ghost use Rattle.prints.specs.Parts.{number as numberPart, byte as bytePart, letter as letterPart, Apart, amount_parts, job_parts, heading_parts};
-ghost use Rattle.texts.specs.Steps.{DigitOf, Accepts, Reads, Any, mark_of};
+ghost use Rattle.prints.specs.Parts.{number as number_part, byte as byte_part, letter as letter_part, Apart, amount_parts, job_parts, heading_parts};
+ghost use Rattle.texts.specs.Steps.{Accepts, Reads, Any, mark_of};
 ghost use Rattle.texts.specs.Records.{front, letter_of, line_of, run_of, Fresh};
 
 use super::Reader;
 use crate::heading::{Heading, Rule};
 use amounts::Amount;
 use jobs::Job;
+use prints::digit_of;
 use refusals::{AXIS_BOUND, FLOOR_BOUND, MINUTES_BOUND, MOST_BENCHES, MOST_JOBS, Refusal};
 
 /// The byte before an axis of an amount.
@@ -27,17 +28,6 @@ fn put<K: Amount>(amount: K, axis: u32, value: u32) -> K
     ensures { front K.Amount.reading axis result ≡ front K.Amount.reading (axis - 1) amount ++ (value ∷ []) }
 {
     amount.with_axis(axis, u64::from(value)).unwrap()
-}
-
-/// What the digit stands for.
-fn digit_of(b: u8) -> Option<u64>
-    ensures { DigitOf b result }
-{
-    if b.is_ascii_digit() {
-        Some(u64::from(b - b'0'))
-    } else {
-        None
-    }
 }
 
 impl<K: Amount> Reader<'_, K> {
@@ -80,7 +70,7 @@ impl<K: Amount> Reader<'_, K> {
     }
 
     /// A digit.
-    fn digit(&mut self) -> Result<u64, Refusal>
+    fn digit(&mut self) -> Result<u8, Refusal>
         ensures { Accepts DigitOf self.old self.new result }
     {
         self.accept(digit_of)
@@ -88,8 +78,8 @@ impl<K: Amount> Reader<'_, K> {
 
     /// The byte `b`, which is no digit.
     fn byte(&mut self, b: u8) -> Result<(), Refusal>
-        requires { isDigit b ≡ false }
-        ensures { Reads (bytePart b ∷ []) Any (λ _. b ∷ []) self.old self.new result }
+        requires { is_digit b ≡ false }
+        ensures { Reads (byte_part b ∷ []) Any (λ _. b ∷ []) self.old self.new result }
     {
         self.accept(|c| (c == b).then_some(()))
     }
@@ -97,7 +87,7 @@ impl<K: Amount> Reader<'_, K> {
     /// A number of at most `bound`, with no leading zero.
     fn digits(&mut self, bound: u64) -> Result<u32, Refusal>
         requires { bound ≤ 1000000000 }
-        ensures reads { Reads (numberPart bound ∷ []) Apart decimal self.old self.new result }
+        ensures reads { Reads (number_part bound ∷ []) Apart decimal self.old self.new result }
         ensures bounded { IfOk result (λ n. n ≤ bound) }
     {
         let (line, column) = (self.line, self.column);
@@ -105,20 +95,20 @@ impl<K: Amount> Reader<'_, K> {
         if first == 0 {
             return Ok(0);
         }
-        let mut value = first;
+        let mut value = u64::from(first);
         while value <= bound {
             let Ok(d) = self.digit() else {
                 return Ok(value as u32);
             };
-            value = value * 10 + d;
+            value = value * 10 + u64::from(d);
         }
         Err(Refusal::TextNumber { line, column })
     }
 
     /// A number after the byte `mark`.
     fn number(&mut self, mark: u8, bound: u64) -> Result<u32, Refusal>
-        requires { (isDigit mark ≡ false) × (bound ≤ 1000000000) }
-        ensures reads { Reads (bytePart mark ∷ numberPart bound ∷ []) Apart (λ n. mark ∷ decimal n) self.old self.new result }
+        requires { (is_digit mark ≡ false) × (bound ≤ 1000000000) }
+        ensures reads { Reads (byte_part mark ∷ number_part bound ∷ []) Apart (λ n. mark ∷ decimal n) self.old self.new result }
         ensures bounded { IfOk result (λ n. n ≤ bound) }
     {
         self.byte(mark)?;
@@ -127,15 +117,15 @@ impl<K: Amount> Reader<'_, K> {
 
     /// The letter of a rule.
     fn letter(&mut self) -> Result<Rule, Refusal>
-        ensures { Reads (letterPart ∷ []) Any (λ a. letter_of a ∷ []) self.old self.new result }
+        ensures { Reads (letter_part ∷ []) Any (λ a. letter_of a ∷ []) self.old self.new result }
     {
         self.accept(|b| Rule::try_from(b).ok())
     }
 
     /// The bytes of a word, none of them a digit.
     fn word(&mut self, w: &[u8]) -> Result<(), Refusal>
-        requires { (i : ℕ) → i < length w.now → isDigit (slice_index w.now i) ≡ false }
-        ensures { Reads (map bytePart w.now) Any (λ _. w.now) self.old self.new result }
+        requires { (i : ℕ) → i < length w.now → is_digit (slice_index w.now i) ≡ false }
+        ensures { Reads (map byte_part w.now) Any (λ _. w.now) self.old self.new result }
     {
         for b in w {
             self.byte(*b)?;

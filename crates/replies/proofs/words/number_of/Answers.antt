@@ -1,8 +1,7 @@
-use Rattle.std.proofs.Common.{◌≡◌, ◌<◌, [], ◌∷◌, sym, ap, ◌∙◌, subst, arith}
+use Rattle.std.proofs.Common.{◌≡◌, [], ◌∷◌, sym, ap, ◌∙◌, subst, arith}
 use Rattle.std.proofs.lemmas.List.{drop_all, nil_from_length}
 use Rattle.std.proofs.lemmas.Bool.{eqb-true, eqb-false}
-use Rattle.prints.specs.Decimal.{digit}
-use Rattle.replies.proofs.Reading.{Read, no_digit, is_digit, read_more, read_stopped, unread_none, unread_zero, read_all}
+use Rattle.replies.proofs.Reading.{Read, read_more, read_stopped, unread_none, unread_zero, read_all}
 use Rattle.replies.proofs.words.number_of.Goals as goal
 use Rattle.replies.proofs.words.number_of.Goals.{else-first-eq48-via-then-first-eq48+else-not-is_empty, else-first-eq48-via-else-first-eq48}
 
@@ -19,16 +18,13 @@ returns-then-not-is_empty c n e =
 pub returns-in_err-value : goal.returns-in_err-value
 returns-in_err-value c =
     let i = c.loop-digit.invariant in
-    let stops = ap digit (sym c.from.ensures) ∙ no_digit c.from.result c.in_err-value.ensures.cases in
-    rw c.from_residual-in_err-value.ensures (read_stopped _ i.0 _ c.loop-digit-test.true i.2 stops)
+    rw c.from_residual-in_err-value.ensures (read_stopped _ i.0 _ c.loop-digit-test.true i.2 c.in_err-value.ensures)
 
 pub loop-digit-preserved : goal.loop-digit-preserved
 loop-digit-preserved c =
     let i = c.loop-digit.invariant in
-    let low : c.in_ok-value.field-0 < 10 = omega (arith, c.in_ok-value.ensures.value) in
-    let d = is_digit c.from.result c.in_ok-value.field-0 c.in_ok-value.ensures.cases low in
-    let more = read_more _ i.0 _ c.loop-digit-test.true i.2 (ap digit (sym c.from.ensures) ∙ d.0) in
-    (_, omega (arith, d.1, c.from.ensures), more)
+    let d = c.in_ok-value.ensures in
+    (_, omega arith, read_more _ i.0 _ c.loop-digit-test.true i.2 c.in_ok-value.value d.0 d.1)
 
 pub returns : goal.returns
 returns c =

@@ -19,7 +19,7 @@ returns-then-first-eq0 g c =
 pub loop-value-init : goal.loop-value-init
 loop-value-init g c =
     let h = c.in_ok-first.ensures.taken in
-    record { some = grind arith; same = h.3; moved = number_first c.args.self.now c.digit.new.self c.in_ok-first.first c.in_ok-first.ensures }
+    record { some = grind arith; same = h.3; moved = rw c.from-value.ensures (number_first c.args.self.now c.digit.new.self c.in_ok-first.first c.in_ok-first.ensures) }
 
 pub returns-in_default : goal.returns-in_default
 returns-in_default g c =
@@ -32,7 +32,7 @@ pub loop-value-preserved : goal.loop-value-preserved
 loop-value-preserved g c =
     let i = c.loop-value.invariant in
     let h = c.in-Ok.ensures in
-    record { some = omega (arith, i.some); same = h.taken.3 ∙ i.same; moved = number_more c.args.self.now c.loop-value.self c.digit-in-loop-value.new.self c.loop-value.value c.in-Ok.d i.same i.moved i.some h }
+    record { some = omega (arith, i.some); same = h.taken.3 ∙ i.same; moved = rw c.from.ensures (number_more c.args.self.now c.loop-value.self c.digit-in-loop-value.new.self c.loop-value.value c.in-Ok.d i.same i.moved i.some h) }
 
 pub returns : goal.returns
 returns g c =

@@ -85,8 +85,7 @@ impl<K: Amount> Reader<'_, K> {
     }
 
     /// A number of at most `bound`, with no leading zero.
-    fn digits(&mut self, bound: u64) -> Result<u32, Refusal>
-        requires { bound ≤ 1000000000 }
+    fn digits(&mut self, bound: u32) -> Result<u32, Refusal>
         ensures reads { Reads (number_part bound ∷ []) Apart decimal self.old self.new result }
         ensures bounded { IfOk result (λ n. n ≤ bound) }
     {
@@ -96,7 +95,7 @@ impl<K: Amount> Reader<'_, K> {
             return Ok(0);
         }
         let mut value = u64::from(first);
-        while value <= bound {
+        while value <= u64::from(bound) {
             let Ok(d) = self.digit() else {
                 return Ok(value as u32);
             };
@@ -106,8 +105,8 @@ impl<K: Amount> Reader<'_, K> {
     }
 
     /// A number after the byte `mark`.
-    fn number(&mut self, mark: u8, bound: u64) -> Result<u32, Refusal>
-        requires { (is_digit mark ≡ false) × (bound ≤ 1000000000) }
+    fn number(&mut self, mark: u8, bound: u32) -> Result<u32, Refusal>
+        requires { is_digit mark ≡ false }
         ensures reads { Reads (byte_part mark ∷ number_part bound ∷ []) Apart (λ n. mark ∷ decimal n) self.old self.new result }
         ensures bounded { IfOk result (λ n. n ≤ bound) }
     {
@@ -134,7 +133,7 @@ impl<K: Amount> Reader<'_, K> {
     }
 
     /// An amount of a kind: a space, and a number on each axis, with a slash between two.
-    fn amount(&mut self, bound: u64) -> Result<K, Refusal>
+    fn amount(&mut self, bound: u32) -> Result<K, Refusal>
         requires { bound ≤ 1000000000 }
         ensures reads { Reads (amount_parts 32 K.Amount.width bound) Apart (λ a. marked 32 (front K.Amount.reading K.Amount.width a)) self.old self.new result }
         ensures held { IfOk result (λ a. AmountHeld K.Amount.width true bound (front K.Amount.reading K.Amount.width a)) }
@@ -154,10 +153,10 @@ impl<K: Amount> Reader<'_, K> {
         ensures fresh { IfOk result (λ j. Fresh K.Amount.reading j) }
     {
         self.word(b"job")?;
-        let parent = self.number(b' ', MOST_JOBS as u64)?;
-        let work = self.amount(AXIS_BOUND)?;
-        let output = self.amount(AXIS_BOUND)?;
-        let minutes = self.number(b' ', MINUTES_BOUND as u64)?;
+        let parent = self.number(b' ', MOST_JOBS as u32)?;
+        let work = self.amount(AXIS_BOUND as u32)?;
+        let output = self.amount(AXIS_BOUND as u32)?;
+        let minutes = self.number(b' ', MINUTES_BOUND)?;
         self.byte(b'\n')?;
         Ok(Job::new(parent, work, output, minutes))
     }
@@ -169,8 +168,8 @@ impl<K: Amount> Reader<'_, K> {
     {
         self.word(b"hall ")?;
         let rule = self.letter()?;
-        let benches = self.number(b' ', MOST_BENCHES as u64)?;
-        let floor = self.amount(FLOOR_BOUND)?;
+        let benches = self.number(b' ', MOST_BENCHES)?;
+        let floor = self.amount(FLOOR_BOUND as u32)?;
         self.byte(b'\n')?;
         Ok(Heading {
             rule,

@@ -25,16 +25,16 @@ pub returns-in_default : goal.returns-in_default
 returns-in_default g c =
     let i = c.loop-value.invariant in
     let h = c.in_default.ensures.left in
-    let at = number_came c.args.self.now c.loop-value.self c.loop-value.value c.args.bound i.same i.moved c.loop-value-test.true (inr h.0) in
-    record { reads = rw h.1 at; bounded = c.loop-value-test.true }
+    let at = number_came c.args.self.now c.loop-value.self c.loop-value.value c.args.bound i.same i.moved (omega arith) (inr h.0) in
+    record { reads = rw h.1 at; bounded = omega arith }
 
 pub loop-value-preserved : goal.loop-value-preserved
 loop-value-preserved g c =
     let i = c.loop-value.invariant in
     let h = c.in-Ok.ensures in
-    record { some = omega (arith, i.some); same = h.taken.3 ∙ i.same; moved = rw c.from.ensures (number_more c.args.self.now c.loop-value.self c.digit-in-loop-value.new.self c.loop-value.value c.in-Ok.d i.same i.moved i.some h) }
+    record { some = omega (arith, i.some); same = h.taken.3 ∙ i.same; moved = rw c.from-in-loop-value.ensures (number_more c.args.self.now c.loop-value.self c.digit-in-loop-value.new.self c.loop-value.value c.in-Ok.d i.same i.moved i.some h) }
 
 pub returns : goal.returns
 returns g c =
     let i = c.loop-value.invariant in
-    record { reads = number_over c.args.self.now c.loop-value.self _ c.loop-value.value c.args.bound i.same refl i.moved c.loop-value-test.false; bounded = tt }
+    record { reads = number_over c.args.self.now c.loop-value.self _ c.loop-value.value c.args.bound i.same refl i.moved (omega arith); bounded = tt }

@@ -1,26 +1,36 @@
 -- What the pass over a line has gathered after its first m positions: sizes and first places of subtrees.
-use Rattle.std.proofs.Common.{◌≡◌, ℕ, ◌+◌, ◌-◌, ◌*◌, ◌<◌, ◌≤◌, min, true, cond, ◌&&◌, eqb, leb, ◌⊎◌, List, length, get_or, sym, refl, ap, ◌∙◌, inl, inr, arith}
+use Rattle.std.proofs.Common.{◌≡◌, ℕ, ◌+◌, ◌-◌, ◌*◌, ◌<◌, ◌≤◌, min, true, cond, ◌&&◌, eqb, leb, ◌⊎◌, List, length, get_or, set, sym, refl, ap, ◌∙◌, inl, inr, arith}
+use Rattle.std.proofs.lemmas.List.{get_or-set_same, get_or-set_other}
 use Rattle.std.proofs.lemmas.Bool.{eqb-true, eq-eqb, ne_eqb, cases_eq, cases_lt, or_cases, or_left, or_right}
 use Rattle.std.proofs.lemmas.Bool.Decides.{nat_tests}
 use Rattle.trees.specs.Sums.{sum, only, In}
 use Rattle.trees.specs.Trees.{Tree, below}
 use Rattle.trees.specs.Lines.{entry, place, Line}
-use Rattle.lines.specs.Spans.{within, members, Begins}
+use Rattle.lines.specs.declared.apart.Span.{Span}
+use Rattle.lines.specs.Spans.{within, members, Begins, span_of}
 use Rattle.trees.proofs.Sums.{sum_most, sum_le, sum_eq, sum_zero, sum_one, sum_add, sum_ones}
 use Rattle.lines.proofs.Upward.{Ranks, ranks}
 use Rattle.trees.proofs.Places.{place_low, place_entry}
 use Rattle.lines.proofs.Subtrees.{toward, lifted, members_step}
 use Rattle.lines.proofs.Spans.{fit}
 
--- what stands in the cell of x for sizes: 1 once x was passed, and the sizes of its children that were
+-- the size in the span of x: 1, and the sizes of its children that were passed
 abbrev pub gathered : ℕ → (ℕ → ℕ) → List ℕ → ℕ → ℕ → ℕ
-gathered n par row m x = only (leb (place x row) m) 1 + sum (λ c. only (eqb (par c) x && leb (place c row) m) (members n par c)) n
+gathered n par row m x = 1 + sum (λ c. only (eqb (par c) x && leb (place c row) m) (members n par c)) n
 
--- what stands in the cells for first places
+-- the first places in the spans
 pub record Lows (n : ℕ) (par : ℕ → ℕ) (row : List ℕ) (low : ℕ → ℕ) (m : ℕ) : Type 0 where
   pub own : (x : ℕ) → In n x → low x ≤ place x row
   pub passed : (c k : ℕ) → In n c → In n k → (par c ≡ 0 → ⊥) → place c row ≤ m → within n par c k ≡ true → low (par c) ≤ place k row
   pub held : (x : ℕ) → In n x → (k : ℕ) × In n k × (within n par x k ≡ true) × (low x ≡ place k row)
+
+-- a field of the span at k, after y was put at i
+pub field_put : (f : Span → ℕ) (spans : List Span) (i : ℕ) (y : Span) (k : ℕ) → i < length spans → f (span_of (set spans i y) k) ≡ cond (eqb k i) (f y) (f (span_of spans k))
+field_put f spans i y k h = go (cases_eq k i)
+  where
+    go : (k ≡ i) ⊎ (k ≡ i → ⊥) → f (span_of (set spans i y) k) ≡ cond (eqb k i) (f y) (f (span_of spans k))
+    go (inl e) = rw (e, eq-eqb i i refl) (ap f (get_or-set_same spans i y (record { size = 0; low = 0 }) h))
+    go (inr e) = rw (ne_eqb k i e) (ap f (get_or-set_other spans i k y (record { size = 0; low = 0 }) e))
 
 pub members_most : (n : ℕ) (par : ℕ → ℕ) (i : ℕ) → members n par i ≤ n
 members_most n par i = omega (arith, sum_le (λ k. only (within n par i k) 1) (λ k. 1) n (λ k j. grind (arith, nat_tests)), sum_ones n)
@@ -34,20 +44,18 @@ module _ (n : ℕ) (par : ℕ → ℕ) (row : List ℕ) (tree : Tree n par) (lin
   rank : Ranks n par
   rank = ranks n par tree
 
-  pub gathered_none : (x : ℕ) → gathered n par row 0 x ≡ 0
+  pub gathered_none : (x : ℕ) → gathered n par row 0 x ≡ 1
   gathered_none x =
-      let a = place_low x row in
       let z = sum_zero (λ c. only (eqb (par c) x && leb (place c row) 0) (members n par c)) n (λ c i. let b = place_low c row in grind (arith, nat_tests)) in
       grind (arith, nat_tests)
 
   pub gathered_all : (x : ℕ) → In n x → gathered n par row n x ≡ members n par x
   gathered_all x i =
-      let a = line.all x i in
       let z = sum_eq (λ c. only (eqb (par c) x && leb (place c row) n) (members n par c)) (λ c. only (eqb (par c) x) (members n par c)) n (λ c j. let b = line.all c j in grind (arith, nat_tests)) in
       let y = members_step n par rank x i in
       grind (arith, nat_tests)
 
-  -- where all children of i were passed, its cell has the first place
+  -- where all children of i were passed, its span has the first place
   lows_least : (low : ℕ → ℕ) (m : ℕ) → Lows n par row low m → (i : ℕ) → In n i → ((c : ℕ) → In n c → par c ≡ i → place c row ≤ m) → (k : ℕ) → In n k → within n par i k ≡ true → low i ≤ place k row
   lows_least low m l i ii all k ik h = go (or_cases _ _ h)
     where
@@ -64,13 +72,12 @@ module _ (n : ℕ) (par : ℕ → ℕ) (row : List ℕ) (tree : Tree n par) (lin
     job_place : place (get_or row m 0) row ≡ m + 1
     job_place = let e : m + 1 - 1 ≡ m = omega arith in rw e at (fit n par row tree line (m + 1) (omega (arith, line.size)) (m + 1) (omega arith)).1
 
-    -- the job's own cell before it is passed
-    pub gathered_own : gathered n par row m (get_or row m 0) + 1 ≡ members n par (get_or row m 0)
+    -- when the job is passed, its span has all its subtree
+    pub gathered_own : gathered n par row m (get_or row m 0) ≡ members n par (get_or row m 0)
     gathered_own =
-        let p = job_place in
         let z = sum_eq (λ c. only (eqb (par c) (get_or row m 0) && leb (place c row) m) (members n par c)) (λ c. only (eqb (par c) (get_or row m 0)) (members n par c)) n (λ c j. each c j (cases_eq (par c) (get_or row m 0))) in
         let y = members_step n par rank (get_or row m 0) job_in in
-        rw p (grind (arith, nat_tests))
+        omega arith
       where
         each : (c : ℕ) → In n c → (par c ≡ get_or row m 0) ⊎ (par c ≡ get_or row m 0 → ⊥) → only (eqb (par c) (get_or row m 0) && leb (place c row) m) (members n par c) ≡ only (eqb (par c) (get_or row m 0)) (members n par c)
         each c j (inl e) = let b = line.later c j in let a = ap (λ x. place x row) e in let p = job_place in let q : place c row ≤ m = omega arith in rw (eq-eqb _ _ e) (grind (arith, nat_tests))
@@ -79,44 +86,32 @@ module _ (n : ℕ) (par : ℕ → ℕ) (row : List ℕ) (tree : Tree n par) (lin
     there : (x : ℕ) → place x row ≡ m + 1 → x ≡ get_or row m 0
     there x e = sym (place_entry x row (omega arith)) ∙ ap (entry row) e ∙ (let z : m + 1 - 1 ≡ m = omega arith in ap (λ q. get_or row q 0) z)
 
-    pub gathered_more : (x : ℕ) → gathered n par row (m + 1) x ≡ gathered n par row m x + only (eqb x (get_or row m 0)) 1 + only (eqb (par (get_or row m 0)) x) (members n par (get_or row m 0))
+    pub gathered_more : (x : ℕ) → gathered n par row (m + 1) x ≡ gathered n par row m x + only (eqb (par (get_or row m 0)) x) (members n par (get_or row m 0))
     gathered_more x =
         omega (
           arith,
-          self (cases_eq x (get_or row m 0)),
           sum_eq (λ c. only (eqb (par c) x && leb (place c row) (m + 1)) (members n par c)) (λ c. only (eqb (par c) x && leb (place c row) m) (members n par c) + only (eqb c (get_or row m 0)) (only (eqb (par c) x) (members n par c))) n (λ c j. each c (cases_eq c (get_or row m 0))),
           sum_add (λ c. only (eqb (par c) x && leb (place c row) m) (members n par c)) (λ c. only (eqb c (get_or row m 0)) (only (eqb (par c) x) (members n par c))) n,
           sum_one (λ c. only (eqb (par c) x) (members n par c)) (get_or row m 0) n job_in,
         )
       where
-        self : (x ≡ get_or row m 0) ⊎ (x ≡ get_or row m 0 → ⊥) → only (leb (place x row) (m + 1)) 1 ≡ only (leb (place x row) m) 1 + only (eqb x (get_or row m 0)) 1
-        self (inl e) = let z : place x row ≡ m + 1 = ap (λ y. place y row) e ∙ job_place in rw (z, eq-eqb _ _ e) (grind (arith, nat_tests))
-        self (inr e) = let z : place x row ≡ m + 1 → ⊥ = λ h. e (there x h) in rw (ne_eqb _ _ e) (grind (arith, nat_tests))
-
         each : (c : ℕ) → (c ≡ get_or row m 0) ⊎ (c ≡ get_or row m 0 → ⊥) → only (eqb (par c) x && leb (place c row) (m + 1)) (members n par c) ≡ only (eqb (par c) x && leb (place c row) m) (members n par c) + only (eqb c (get_or row m 0)) (only (eqb (par c) x) (members n par c))
         each c (inl e) = let z : place c row ≡ m + 1 = ap (λ y. place y row) e ∙ job_place in rw (z, eq-eqb _ _ e) (grind (arith, nat_tests))
         each c (inr e) = let z : place c row ≡ m + 1 → ⊥ = λ h. e (there c h) in rw (ne_eqb _ _ e) (grind (arith, nat_tests))
 
-    pub job_other : get_or row m 0 ≡ par (get_or row m 0) → ⊥
-    job_other e = let z = line.later (get_or row m 0) job_in in let y = ap (λ x. place x row) e in omega arith
-
-    pub sizes_more : (s s' : ℕ → ℕ) → ((k : ℕ) → s k ≡ gathered n par row m k)
-        → ((k : ℕ) → s' k ≡ cond (eqb k (get_or row m 0)) (s (get_or row m 0) + 1) (cond (eqb k (par (get_or row m 0))) (s (par (get_or row m 0)) + (s (get_or row m 0) + 1)) (s k)))
-        → (k : ℕ) → s' k ≡ gathered n par row (m + 1) k
-    sizes_more s s' old new k = new k ∙ go (cases_eq k (get_or row m 0)) (cases_eq (par (get_or row m 0)) k)
+    pub sizes_more : (s s' : ℕ → ℕ) → ((k : ℕ) → k ≤ n → s k ≡ gathered n par row m k)
+        → ((k : ℕ) → s' k ≡ cond (eqb k (par (get_or row m 0))) (s (par (get_or row m 0)) + s (get_or row m 0)) (s k))
+        → (k : ℕ) → k ≤ n → s' k ≡ gathered n par row (m + 1) k
+    sizes_more s s' old new k h = new k ∙ go (cases_eq (par (get_or row m 0)) k)
       where
-        go : (k ≡ get_or row m 0) ⊎ (k ≡ get_or row m 0 → ⊥) → (par (get_or row m 0) ≡ k) ⊎ (par (get_or row m 0) ≡ k → ⊥)
-            → cond (eqb k (get_or row m 0)) (s (get_or row m 0) + 1) (cond (eqb k (par (get_or row m 0))) (s (par (get_or row m 0)) + (s (get_or row m 0) + 1)) (s k)) ≡ gathered n par row (m + 1) k
-        go (inl x) (inl y) = absurd (job_other (sym x ∙ sym y))
-        go (inl x) (inr y) =
-            let f = rw (eq-eqb k (get_or row m 0) x, ne_eqb (par (get_or row m 0)) k y) at (gathered_more k) in
-            rw (eq-eqb k (get_or row m 0) x) (omega (arith, f, old k, ap s x))
-        go (inr x) (inl y) =
-            let f = rw (ne_eqb k (get_or row m 0) x, eq-eqb (par (get_or row m 0)) k y) at (gathered_more k) in
-            rw (ne_eqb k (get_or row m 0) x, eq-eqb k (par (get_or row m 0)) (sym y)) (omega (arith, f, old k, ap s y, old (get_or row m 0), gathered_own))
-        go (inr x) (inr y) =
-            let f = rw (ne_eqb k (get_or row m 0) x, ne_eqb (par (get_or row m 0)) k y) at (gathered_more k) in
-            rw (ne_eqb k (get_or row m 0) x, ne_eqb k (par (get_or row m 0)) (λ z. y (sym z))) (omega (arith, f, old k))
+        go : (par (get_or row m 0) ≡ k) ⊎ (par (get_or row m 0) ≡ k → ⊥)
+            → cond (eqb k (par (get_or row m 0))) (s (par (get_or row m 0)) + s (get_or row m 0)) (s k) ≡ gathered n par row (m + 1) k
+        go (inl y) =
+            let f = rw (eq-eqb (par (get_or row m 0)) k y) at (gathered_more k) in
+            rw (eq-eqb k (par (get_or row m 0)) (sym y)) (omega (arith, f, old k h, ap s y, old (get_or row m 0) job_in.1, gathered_own))
+        go (inr y) =
+            let f = rw (ne_eqb (par (get_or row m 0)) k y) at (gathered_more k) in
+            rw (ne_eqb k (par (get_or row m 0)) (λ z. y (sym z))) (omega (arith, f, old k h))
 
     pub lows_more : (low low' : ℕ → ℕ) → Lows n par row low m
         → ((k : ℕ) → low' k ≡ cond (eqb k (par (get_or row m 0))) (min (low (par (get_or row m 0))) (low (get_or row m 0))) (low k))

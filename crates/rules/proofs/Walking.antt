@@ -1,8 +1,9 @@
 -- A walk along the chain of a job's children in lent records. What it keeps is told wherever the records are those of a tree with
 -- its chains; of other records nothing is known.
-use Rattle.std.proofs.Common.{◌≡◌, ℕ, ◌+◌, ◌<◌, ◌≤◌, Bool, true, false, ◌&&◌, leb, List, length, get_or, Some, None, Option, Bor, sym, refl, ap, ◌∙◌, subst, inl, inr, arith, MatchOption}
+use Rattle.std.proofs.Common.{◌≡◌, ℕ, ◌+◌, ◌<◌, ◌≤◌, Bool, true, false, ◌&&◌, leb, List, length, get_or, Some, None, Option, Ok, Err, Result, Bor, sym, refl, ap, ◌∙◌, subst, inl, inr, arith, MatchOption}
 use Rattle.std.proofs.lemmas.List.{get_or-map}
 use Rattle.std.proofs.lemmas.Bool.{cases_eq, cases_lt, cond-true, and_from, le-leb}
+use Rattle.std.specs.Result.{result_ok}
 use Rattle.amounts.specs.Axes.{most, Sum}
 use Rattle.trees.specs.Sums.{In}
 use Rattle.trees.specs.Trees.{NextChild, kids}
@@ -14,6 +15,7 @@ use Rattle.intake.specs.Faults.{par_of}
 use Rattle.peaks.proofs.Bounded.{Reads, work_most, output_most, outputs_most}
 use Rattle.peaks.proofs.Gathering.{before, before_none, before_all, before_most, before_next}
 use Rattle.rules.specs.Records.{state_in, ChainedRecords}
+use Rattle.rules.specs.declared.kin.Broken.{Broken}
 use Rattle.rules.specs.declared.kin.Children.{Children}
 use Rattle.rules.specs.Children.{Gives}
 
@@ -63,9 +65,10 @@ module _ {S : Type 0} (w : ℕ) (read : S → ℕ → ℕ) (xs : List (Job S)) (
     pub done_first : DoneTo s.last
     done_first n tree own k in-k low child = absurd (omega arith)
 
-  -- the walk s stops only at the end of the chain
-  pub never_breaks : (s : Children S) → Walks s → Gives s (Some None) s → InTree (λ n. ⊥)
-  never_breaks s walks gives n tree own =
+  -- the walk s gives no error
+  pub never_breaks : (s t : Children S) → Walks s → (i : Result (Bor (Job S)) Broken) → Gives s (Some i) t → result_ok i ≡ None → InTree (λ n. ⊥)
+  never_breaks s t walks (Ok r) gives none n tree own = cc
+  never_breaks s t walks (Err e) gives none n tree own =
       let c = (walks.comes n tree own).some gives.0 in
       let stops : length xs ≤ s.next = subst (λ l. length l ≤ s.next) walks.same (gives.1 c.0) in
       omega (arith, c.1, tree.sound.records)
@@ -154,8 +157,13 @@ module _ {S : Type 0} {w : ℕ} {read : S → ℕ → ℕ} {xs : List (Job S)} {
         ]
       ]
 
+-- what has a record is that record
+pub gave : {S : Type 0} (s t : Children S) (i : Result (Bor (Job S)) Broken) (r : Bor (Job S)) → Gives s (Some i) t → result_ok i ≡ Some r → Gives s (Some (Ok r)) t
+gave s t (Ok x) r gives some = let e : x ≡ r = cc in subst (λ y. Gives s (Some (Ok y)) t) e gives
+gave s t (Err e) r gives some = cc
+
 -- the walk s gave the record r, and is t now
-module _ {S : Type 0} {w : ℕ} {read : S → ℕ → ℕ} {xs : List (Job S)} {job : ℕ} {s : Children S} (walks : Walks w read xs job s) (r : Bor (Job S)) (t : Children S) (gives : Gives s (Some (Some r)) t) where
+module _ {S : Type 0} {w : ℕ} {read : S → ℕ → ℕ} {xs : List (Job S)} {job : ℕ} {s : Children S} (walks : Walks w read xs job s) (r : Bor (Job S)) (t : Children S) (gives : Gives s (Some (Ok r)) t) where
   pub turn_of : Turn w read xs job s.last s.next r.now
   turn_of =
       record {

@@ -14,8 +14,12 @@ ghost use Rattle.rules.specs.Children.{Gives, steps_left};
 use amounts::Amount;
 use jobs::{Job, State};
 
-/// The records of a job's children, in rising job numbers. The last item is none where the chain
-/// breaks off.
+/// The chain of a job's children breaks off.
+#[derive(Clone, Copy)]
+struct Broken;
+
+/// The records of a job's children, in rising job numbers. The last item is an error where the
+/// chain breaks off.
 #[derive(Drop)]
 struct Children<'a, K> {
     jobs: &'a [Job<K>],
@@ -40,25 +44,25 @@ impl<'a, K> Children<'a, K> {
 }
 
 impl<'a, K> Iterator for Children<'a, K> {
-    type Item = Option<&'a Job<K>>;
+    type Item = Result<&'a Job<K>, Broken>;
 
     ghost next_gives = { Gives };
 
     ghost remaining = { λ s. at_most (steps_left s) };
 
-    fn next(&mut self) -> Option<Option<&'a Job<K>>> {
+    fn next(&mut self) -> Option<Result<&'a Job<K>, Broken>> {
         let child = self.next;
         if child == 0 {
             return None;
         }
         if child <= self.last || child >= self.jobs.len() {
             self.next = 0;
-            return Some(None);
+            return Some(Err(Broken));
         }
         let record = &self.jobs[child];
         self.last = child;
         self.next = record.next_sibling as usize;
-        Some(Some(record))
+        Some(Ok(record))
     }
 }
 
@@ -70,7 +74,7 @@ pub fn freed<K: Amount>(jobs: &[Job<K>], job: usize) -> Option<K>
     let record = jobs.get(job)?;
     let mut given = K::zero();
     for child in Children::of(jobs, record) {
-        given = given.sum(&child?.output)?;
+        given = given.sum(&child.ok()?.output)?;
     }
     record.work.sum(&given)
 }
@@ -86,7 +90,7 @@ pub fn startable<K: Amount>(jobs: &[Job<K>], job: usize) -> bool
         return false;
     };
     for child in Children::of(jobs, record) {
-        let Some(child) = child else {
+        let Ok(child) = child else {
             return false;
         };
         let State::Done = child.state else {

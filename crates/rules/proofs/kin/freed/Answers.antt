@@ -1,7 +1,7 @@
-use Rattle.std.proofs.Common.{subst, Some, None, arith}
+use Rattle.std.proofs.Common.{sym, ◌∙◌, Some, Ok, arith}
 use Rattle.peaks.proofs.Bounded.{Reads}
 use Rattle.rules.specs.Children.{Gives}
-use Rattle.rules.proofs.Walking.{walks_first, gathered_first, never_breaks, turn_of, walks_next, gathered_fits, gathered_next, gathered_all, with_work}
+use Rattle.rules.proofs.Walking.{walks_first, gathered_first, never_breaks, gave, turn_of, walks_next, gathered_fits, gathered_next, gathered_all, with_work}
 use Rattle.rules.proofs.kin.freed.Goals as goal
 
 pub loop-child-init : goal.loop-child-init
@@ -18,18 +18,17 @@ loop-child-init g c =
       gathered_first w read c.args.jobs.now job walk own its.3.0 its.1 begins.lent begins.first.0 begins.first.1 c.zero-given.result c.zero-given.ensures,
     )
 
-pub returns-in_err-child : goal.returns-in_err-child
-returns-in_err-child g c = λ n tree own.
+pub returns-in_err-ok : goal.returns-in_err-ok
+returns-in_err-ok g c = λ n tree own.
     let s = c.loop-child.child-iterator in
-    let gives : Gives s (Some None) c.next.new.self = subst (λ i. Gives s (Some i) c.next.new.self) c.in_err-child.was c.in-Some.ensures.steps in
-    absurd (never_breaks g.K.Amount.width g.K.Amount.reading c.args.jobs.now c.args.job s c.loop-child.invariant.0 gives n tree own)
+    absurd (never_breaks g.K.Amount.width g.K.Amount.reading c.args.jobs.now c.args.job s c.next.new.self c.loop-child.invariant.0 c.in-Some.child c.in-Some.ensures.steps (sym c.ok.ensures.value ∙ c.in_err-ok.was) n tree own)
 
 pub returns-in_err-given : goal.returns-in_err-given
 returns-in_err-given g c = λ n tree own.
     let s = c.loop-child.child-iterator in
-    let r = c.in_ok-child.field-0 in
+    let r = c.in_ok-ok.field-0 in
     let kind : Reads g.K.Amount.width g.K.Amount.reading = record { nothing = g.met.K.Amount.nothing; beyond = g.met.K.Amount.beyond } in
-    let gives : Gives s (Some (Some r)) c.next.new.self = subst (λ i. Gives s (Some i) c.next.new.self) c.in_ok-child.was c.in-Some.ensures.steps in
+    let gives : Gives s (Some (Ok r)) c.next.new.self = gave s c.next.new.self c.in-Some.child r c.in-Some.ensures.steps (sym c.ok.ensures.value ∙ c.in_ok-ok.was) in
     let over = c.in_err-given.ensures in
     let fits = gathered_fits (turn_of c.loop-child.invariant.0 r c.next.new.self gives) kind c.loop-child.given c.loop-child.invariant.1 n tree own over.0 in
     absurd (omega (arith, over.1))
@@ -37,9 +36,9 @@ returns-in_err-given g c = λ n tree own.
 pub loop-child-preserved : goal.loop-child-preserved
 loop-child-preserved g c =
     let s = c.loop-child.child-iterator in
-    let r = c.in_ok-child.field-0 in
+    let r = c.in_ok-ok.field-0 in
     let t = c.next.new.self in
-    let gives : Gives s (Some (Some r)) t = subst (λ i. Gives s (Some i) t) c.in_ok-child.was c.in-Some.ensures.steps in
+    let gives : Gives s (Some (Ok r)) t = gave s t c.in-Some.child r c.in-Some.ensures.steps (sym c.ok.ensures.value ∙ c.in_ok-ok.was) in
     let turn = turn_of c.loop-child.invariant.0 r t gives in
     (walks_next c.loop-child.invariant.0 r t gives, rw gives.5 (gathered_next turn c.loop-child.given c.in_ok-given.given c.loop-child.invariant.1 c.in_ok-given.ensures))
 

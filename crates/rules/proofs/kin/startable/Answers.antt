@@ -1,4 +1,5 @@
-use Rattle.std.proofs.Common.{sym, ◌∙◌, subst, Some, None}
+use Rattle.std.proofs.Common.{sym, ap, ◌∙◌, subst, Some, Ok}
+use Rattle.std.specs.Result.{result_ok}
 use Rattle.intake.specs.Faults.{par_of}
 use Rattle.logs.proofs.Tallies.{startable_true, startable_from}
 use Rattle.rules.specs.Children.{Gives}
@@ -30,16 +31,15 @@ loop-child-init g c =
 pub returns-in_default-child : goal.returns-in_default-child
 returns-in_default-child g c = λ n tree own.
     let s = c.loop-child.child-iterator in
-    let gives : Gives s (Some None) c.next.new.self = subst (λ i. Gives s (Some i) c.next.new.self) c.in_default-child.is c.in-Some-child.ensures.steps in
-    absurd (never_breaks g.K.Amount.width g.K.Amount.reading c.args.jobs.now c.args.job s c.loop-child.invariant.0 gives n tree own)
+    absurd (never_breaks g.K.Amount.width g.K.Amount.reading c.args.jobs.now c.args.job s c.next.new.self c.loop-child.invariant.0 c.in-Some-child.child c.in-Some-child.ensures.steps (ap result_ok c.in_default-child.is) n tree own)
 
 pub returns-in_default-state-2 : goal.returns-in_default-state-2
 returns-in_default-state-2 g c = λ n tree own.
     let jobs = c.args.jobs.now in
     let s = c.loop-child.child-iterator in
-    let r = c.in-Some-child-2.child in
+    let r = c.in-Ok.child in
     let t = c.next.new.self in
-    let gives : Gives s (Some (Some r)) t = subst (λ i. Gives s (Some i) t) c.in-Some-child-2.is c.in-Some-child.ensures.steps in
+    let gives : Gives s (Some (Ok r)) t = subst (λ i. Gives s (Some i) t) c.in-Ok.is c.in-Some-child.ensures.steps in
     let turn = turn_of c.loop-child.invariant.0 r t gives in
     let its = turn_child turn n tree own in
     let stands = state_read jobs n s.next r.now its.0 turn.inside turn.is in
@@ -48,9 +48,9 @@ returns-in_default-state-2 g c = λ n tree own.
 pub loop-child-preserved : goal.loop-child-preserved
 loop-child-preserved g c =
     let s = c.loop-child.child-iterator in
-    let r = c.in-Some-child-2.child in
+    let r = c.in-Ok.child in
     let t = c.next.new.self in
-    let gives : Gives s (Some (Some r)) t = subst (λ i. Gives s (Some i) t) c.in-Some-child-2.is c.in-Some-child.ensures.steps in
+    let gives : Gives s (Some (Ok r)) t = subst (λ i. Gives s (Some i) t) c.in-Ok.is c.in-Some-child.ensures.steps in
     let turn = turn_of c.loop-child.invariant.0 r t gives in
     (walks_next c.loop-child.invariant.0 r t gives, rw gives.4 (done_next turn c.in-Done.is c.loop-child.invariant.1))
 

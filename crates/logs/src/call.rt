@@ -5,7 +5,7 @@ use jobs::State;
 use std::fmt;
 
 /// What is asked of a board.
-#[derive(Clone, Copy)]
+#[derive(Clone, Copy, Debug, PartialEq, Eq)]
 pub enum Call {
     /// The bench is free for a job.
     Start(usize),

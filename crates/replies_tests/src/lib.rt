@@ -12,35 +12,23 @@ mod tests {
     use std::process::Abort;
     use std::test::Fail;
 
-    // The word and the number of a call.
-    fn parts(call: Call) -> (&'static str, usize) {
-        match call {
-            Call::Start(bench) => ("start", bench),
-            Call::Report(bench) => ("report", bench),
-            Call::Ask(job) => ("ask", job),
-        }
-    }
-
     #[test]
-    fn calls(rt: HostRuntime) -> Result<(), Fail> {
-        let table: [(&[u8], &str, usize); 7] = [
-            (b"start 1", "start", 1),
-            (b"report 64", "report", 64),
-            (b"ask 4095", "ask", 4095),
-            (b"start 0", "start", 0),
-            (b"ask 18446744073709551615", "ask", usize::MAX),
-            (b"ask 18446744073709551616", "ask", usize::MAX),
+    fn calls(rt: HostRuntime) {
+        let table: [(&[u8], Call); 7] = [
+            (b"start 1", Call::Start(1)),
+            (b"report 64", Call::Report(64)),
+            (b"ask 4095", Call::Ask(4095)),
+            (b"start 0", Call::Start(0)),
+            (b"ask 18446744073709551615", Call::Ask(usize::MAX)),
+            (b"ask 18446744073709551616", Call::Ask(usize::MAX)),
             (
                 b"start 1234567890123456789012345678901234567890",
-                "start",
-                usize::MAX,
+                Call::Start(usize::MAX),
             ),
         ];
-        for (line, word, number) in table {
-            let call = call_of(line).ok_or("no call")?;
-            assert_eq!(rt; parts(call), (word, number));
+        for (line, call) in table {
+            assert_eq!(rt; call_of(line), Some(call));
         }
-        Ok(())
     }
 
     #[test]

@@ -32,7 +32,7 @@ impl<K: Amount, R: Rule<K>> Board<K, R> {
         }
     }
 
-    /// Opens what is as_opened, anew if a tree is open: every job waits.
+    /// Opens what the setup says, anew if a tree is open: every job waits.
     pub fn open(&mut self, jobs: &mut [Job<K>], setup: &Setup<K>) -> Result<(), Refusal>
         ensures judged { Judged (OpenFault K.Amount.width K.Amount.reading R.Rule.acts self.old.rule jobs.old setup.now) (λ _. Led K.Amount.width K.Amount.reading R.Rule.acts (as_opened K.Amount.reading jobs.old setup.now) [] self.new jobs.new) result }
         ensures still { OnErr result ((self.new ≡ self.old) × (jobs.new ≡ jobs.old)) }

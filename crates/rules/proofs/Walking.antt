@@ -65,7 +65,7 @@ module _ {S : Type 0} (w : ℕ) (read : S → ℕ → ℕ) (xs : List (Job S)) (
     pub done_first : DoneTo s.last
     done_first n tree own k in-k low child = absurd (omega arith)
 
-  -- the walk s gives no error
+  -- the walk s does not break off
   pub never_breaks : (s t : Children S) → Walks s → (i : Result (Bor (Job S)) Broken) → Gives s (Some i) t → result_ok i ≡ None → InTree (λ n. ⊥)
   never_breaks s t walks (Ok r) gives none n tree own = cc
   never_breaks s t walks (Err e) gives none n tree own =
@@ -157,7 +157,7 @@ module _ {S : Type 0} {w : ℕ} {read : S → ℕ → ℕ} {xs : List (Job S)} {
         ]
       ]
 
--- what has a record is that record
+-- an item that has a record is that record
 pub gave : {S : Type 0} (s t : Children S) (i : Result (Bor (Job S)) Broken) (r : Bor (Job S)) → Gives s (Some i) t → result_ok i ≡ Some r → Gives s (Some (Ok r)) t
 gave s t (Ok x) r gives some = let e : x ≡ r = cc in subst (λ y. Gives s (Some (Ok y)) t) e gives
 gave s t (Err e) r gives some = cc

@@ -32,12 +32,24 @@ pub fn lowest_apart(parents: &[u32], row: &[u32]) -> Result<Option<usize>, Refus
     ensures { Judged (LineFault (jobs_in parents.now) (par_in parents.now) row.now) (Apart (jobs_in parents.now) (par_in parents.now) row.now) result }
 {
     let places = positions(parents, row)?;
-    let mut spans = places.map(|place| Span {
-        size: 1,
-        low: place,
-    });
-    gather(parents, row, &mut spans);
-    Ok(first_apart(parents.len(), &places, &spans))
+    let mut cells = [Span { size: 0, low: 0 }; 4096];
+    let spans = &mut cells[..parents.len()];
+    set_alone(&places, spans);
+    gather(parents, row, spans);
+    Ok(first_apart(parents.len(), &places, spans))
+}
+
+/// Makes each span that of its job alone.
+fn set_alone(places: &[u32], spans: &mut [Span])
+    requires { length spans.old ≤ length places.now }
+    ensures { (k : ℕ) → k < length spans.old → (size_of spans.new k ≡ 1) × (low_of spans.new k ≡ slice_index places.now k) }
+{
+    for (job, span) in spans.iter_mut().enumerate() {
+        *span = Span {
+            size: 1,
+            low: places[job],
+        };
+    }
 }
 
 /// Gathers each subtree, from the first job of the line to the last, so that all children of a job
@@ -54,7 +66,11 @@ fn gather(parents: &[u32], row: &[u32], spans: &mut [Span])
     for entry in row {
         let job = *entry as usize;
         let parent = parents[job] as usize;
-        let whole = spans[job];
+        // one field at a time, as they were written: reading both at once waits for the writes
+        let whole = Span {
+            size: spans[job].size,
+            low: spans[job].low,
+        };
         spans[parent].take_in(whole);
     }
 }

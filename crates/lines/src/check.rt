@@ -1,18 +1,21 @@
 ghost use Rattle.std.specs.Prelude.{◌≡◌, ℕ, ◌+◌, ◌-◌, ◌<◌, ◌≤◌, length, IfNone, slice_index};
 ghost use Rattle.refusals.specs.Judged.{Judged};
-ghost use Rattle.trees.specs.Found.{jobs_in, par_in, Lowest};
+ghost use Rattle.trees.specs.Found.{jobs_in, par_in, TreeRow, Lowest};
 ghost use Rattle.trees.specs.Sums.{In};
 ghost use Rattle.lines.specs.Checks.{Misfit, Entered, Early, Placed};
 ghost use Rattle.lines.specs.Faults.{LineFault};
 
 use refusals::Refusal;
-use trees::Parents;
+use trees::{Parents, check_parents};
 
 /// The position, from 1, of each job in a row that is a line of the tree; 0 where there is no job.
 pub fn positions(parents: &[u32], row: &[u32]) -> Result<[u32; 4096], Refusal>
     ensures { Judged (LineFault (jobs_in parents.now) (par_in parents.now) row.now) (Placed (jobs_in parents.now) (par_in parents.now) row.now) result }
 {
-    places_in(&Parents::of(parents)?, row)
+    check_parents(parents)?;
+    let mut places = [0u32; 4096];
+    check_line(parents, row, &mut places)?;
+    Ok(places)
 }
 
 /// The same, where the parents are known to make a tree.
@@ -20,13 +23,24 @@ pub fn places_in(tree: &Parents, row: &[u32]) -> Result<[u32; 4096], Refusal>
     ensures { Judged (LineFault (jobs_in tree.now) (par_in tree.now) row.now) (Placed (jobs_in tree.now) (par_in tree.now) row.now) result }
 {
     let mut places = [0u32; 4096];
-    if let Some(position) = first_misfit(tree.jobs(), row, &mut places) {
+    check_line(tree.row(), row, &mut places)?;
+    Ok(places)
+}
+
+/// Enters the position of each job, where the row is a line of the tree.
+fn check_line(parents: &[u32], row: &[u32], places: &mut [u32]) -> Result<(), Refusal>
+    requires tree { TreeRow parents.now }
+    requires room { jobs_in parents.now < length places.old }
+    requires clear { (k : ℕ) → slice_index places.old k ≡ 0 }
+    ensures { Judged (LineFault (jobs_in parents.now) (par_in parents.now) row.now) (λ _. Placed (jobs_in parents.now) (par_in parents.now) row.now places.new) result }
+{
+    if let Some(position) = first_misfit(parents.len() - 1, row, places) {
         return Err(Refusal::LineEntry { position });
     }
-    if let Some(position) = first_early(tree, &places) {
+    if let Some(position) = first_early(parents, places) {
         return Err(Refusal::LineOrder { position });
     }
-    Ok(places)
+    Ok(())
 }
 
 /// Enters the place of each number of the row, up to the first position that does not fit.
@@ -50,12 +64,12 @@ fn first_misfit(jobs: usize, row: &[u32], places: &mut [u32]) -> Option<usize>
 }
 
 /// The first place of a parent that stands no later than one of its children.
-fn first_early(tree: &Parents, places: &[u32]) -> Option<usize>
-    requires long { jobs_in tree.now < length places.now }
-    requires placed { (k : ℕ) → In (jobs_in tree.now) k → In (jobs_in tree.now) (slice_index places.now k) }
-    ensures { Lowest (jobs_in tree.now) (Early (jobs_in tree.now) (par_in tree.now) (λ k. slice_index places.now k)) result }
+fn first_early(parents: &[u32], places: &[u32]) -> Option<usize>
+    requires tree { TreeRow parents.now }
+    requires long { jobs_in parents.now < length places.now }
+    requires placed { (k : ℕ) → In (jobs_in parents.now) k → In (jobs_in parents.now) (slice_index places.now k) }
+    ensures { Lowest (jobs_in parents.now) (Early (jobs_in parents.now) (par_in parents.now) (λ k. slice_index places.now k)) result }
 {
-    let parents = tree.row();
     (1..parents.len())
         .filter_map(|job| {
             let parent = parents[job] as usize;

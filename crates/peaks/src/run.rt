@@ -18,7 +18,11 @@ pub fn standing<K: Amount>(
 ) -> Result<Option<K>, Refusal>
     ensures { Judged (RunFault K.Amount.width K.Amount.reading jobs.now n line.now) (Standing K.Amount.reading jobs.now n line.now position) result }
 {
-    for (p, stands) in Walk::of(jobs, n, line)? {
+    let walk = Walk::of(jobs, n, line)?;
+    if position == 0 || position > n {
+        return Ok(None);
+    }
+    for (p, stands) in walk {
         if p == position {
             return Ok(Some(stands));
         }

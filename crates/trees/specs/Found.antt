@@ -1,5 +1,5 @@
 -- What a search over the jobs 1 to n finds.
-use Rattle.std.specs.Prelude.{◌≡◌, ℕ, ◌-◌, ◌<◌, ◌≤◌, ◌⊎◌, List, length, Option, MatchOption, Ok, Err, Result, ◌≢◌, slice_index}
+use Rattle.std.specs.Prelude.{◌≡◌, ℕ, ◌-◌, ◌<◌, ◌≤◌, ◌⊎◌, List, ◌++◌, length, replicate, Option, MatchOption, Ok, Err, Result, ◌≢◌, slice_index}
 use Rattle.refusals.specs.declared.Refusal.{Refusal}
 use Rattle.refusals.specs.declared.Refusal.TheVariants.{NoRoot, SecondRoot}
 use Rattle.trees.specs.Sums.{In}
@@ -11,6 +11,10 @@ jobs_in parents = length parents - 1
 
 abbrev pub par_in : List ℕ → ℕ → ℕ
 par_in parents k = slice_index parents k
+
+-- the row at the front of 4,096 cells, the others blank
+abbrev pub laid : List ℕ → List ℕ
+laid row = row ++ replicate (4096 - length row) 0
 
 -- the row has the parents of a tree of at most 4,095 jobs
 pub record TreeRow (parents : List ℕ) : Type 0 where

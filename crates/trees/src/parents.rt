@@ -2,15 +2,16 @@ ghost use Rattle.std.specs.Prelude.{◌≡◌, ℕ, List, ◌+◌, ◌-◌, ◌<
 ghost use Rattle.refusals.specs.Judged.{Judged};
 ghost use Rattle.trees.specs.Trees.{Tree};
 ghost use Rattle.trees.specs.Faults.{ParentFault};
-ghost use Rattle.trees.specs.Found.{jobs_in, par_in, TreeRow, Lowest, LowestFrom, Roots};
+ghost use Rattle.trees.specs.Found.{jobs_in, par_in, laid, TreeRow, Lowest, LowestFrom, Roots};
+ghost use Rattle.std.proofs.Common.{arith, length-take};
 
 use super::reach::lowest_unreached;
 use refusals::{MOST_JOBS, Refusal};
 use std::marker::Model;
 
 /// The parents of the jobs of a tree: that of job `i` stands at `i`, 0 for the root; the first cell
-/// is spare.
-#[derive(Drop)]
+/// is spare, and those past the last job are 0.
+#[derive(Clone, Copy)]
 pub struct Parents {
     cells: [u32; 4096],
     jobs: usize,
@@ -21,7 +22,11 @@ impl Model for Parents {
 
     ghost view = { λ p. take (p.jobs + 1) p.cells };
 
-    ghost invariant = { λ p. (1 ≤ p.jobs) × (p.jobs ≤ 4095) × (length p.cells ≡ 4096) × Tree p.jobs (par_in (take (p.jobs + 1) p.cells)) };
+    ghost inverse = { λ row. record { cells = laid row; jobs = length row - 1 } };
+
+    ghost inverse_ok = { λ p fits. Prim.grind (arith, length-take (p.jobs + 1) p.cells, fits) };
+
+    ghost invariant = { λ p. (1 ≤ p.jobs) × (p.jobs ≤ 4095) × (length p.cells ≡ 4096) × (p.cells ≡ laid (take (p.jobs + 1) p.cells)) × Tree p.jobs (par_in (take (p.jobs + 1) p.cells)) };
 }
 
 impl Parents {
@@ -29,17 +34,7 @@ impl Parents {
     pub fn of(row: &[u32]) -> Result<Parents, Refusal>
         ensures { Judged (ParentFault (jobs_in row.now) (par_in row.now)) (λ t. (t ≡ row.now) × TreeRow row.now) result }
     {
-        let jobs = row.len().saturating_sub(1);
-        if jobs == 0 || jobs > MOST_JOBS {
-            return Err(Refusal::JobCount { jobs });
-        }
-        if let Some(job) = lowest_missing(row) {
-            return Err(Refusal::ParentMissing { job });
-        }
-        one_root(row)?;
-        if let Some(job) = lowest_unreached(row) {
-            return Err(Refusal::RootUnreached { job });
-        }
+        let jobs = check_parents(row)?;
         let mut cells = [0u32; 4096];
         cells[..row.len()].copy_from_slice(row);
         Ok(Parents { cells, jobs })
@@ -67,7 +62,18 @@ impl Parents {
 pub fn check_parents(parents: &[u32]) -> Result<usize, Refusal>
     ensures { Judged (ParentFault (jobs_in parents.now) (par_in parents.now)) (λ n. (n ≡ jobs_in parents.now) × (1 ≤ n) × (n ≤ 4095) × Tree (jobs_in parents.now) (par_in parents.now)) result }
 {
-    Ok(Parents::of(parents)?.jobs())
+    let jobs = parents.len().saturating_sub(1);
+    if jobs == 0 || jobs > MOST_JOBS {
+        return Err(Refusal::JobCount { jobs });
+    }
+    if let Some(job) = lowest_missing(parents) {
+        return Err(Refusal::ParentMissing { job });
+    }
+    one_root(parents)?;
+    if let Some(job) = lowest_unreached(parents) {
+        return Err(Refusal::RootUnreached { job });
+    }
+    Ok(jobs)
 }
 
 /// The lowest job whose parent is above the job count.

@@ -14,8 +14,11 @@ loop-entry-init c = (
 pub bounds-parents-job : goal.bounds-parents-job
 bounds-parents-job c = omega (arith, job_in _ _ c.args.row.now c.requires.tree.tree c.requires.line c.loop-entry.entry-index c.loop-entry-test.true)
 
-pub slice_copy_out-whole : goal.slice_copy_out-whole
-slice_copy_out-whole c = omega (arith, job_in _ _ c.args.row.now c.requires.tree.tree c.requires.line c.loop-entry.entry-index c.loop-entry-test.true)
+pub bounds-spans-job : goal.bounds-spans-job
+bounds-spans-job c = omega (arith, job_in _ _ c.args.row.now c.requires.tree.tree c.requires.line c.loop-entry.entry-index c.loop-entry-test.true)
+
+pub bounds-spans-job-in-loop-entry : goal.bounds-spans-job-in-loop-entry
+bounds-spans-job-in-loop-entry c = omega (arith, job_in _ _ c.args.row.now c.requires.tree.tree c.requires.line c.loop-entry.entry-index c.loop-entry-test.true)
 
 pub bounds-spans-parent : goal.bounds-spans-parent
 bounds-spans-parent c = omega (arith, c.requires.tree.tree.parents _ (job_in _ _ c.args.row.now c.requires.tree.tree c.requires.line c.loop-entry.entry-index c.loop-entry-test.true))

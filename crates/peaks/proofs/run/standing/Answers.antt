@@ -10,7 +10,7 @@ returns-then-p-position g c =
     let e : c.in-Some.p ≡ c.args.position = omega arith in
     let here : In c.args.n c.args.position = rw e at step.1 in
     let stands : Stands g.K.Amount.reading c.args.jobs.now c.args.n c.args.line.now c.in-Some.stands c.args.position = rw e at step.2 in
-    (c.in_ok-items.ensures.0, (here, stands))
+    (c.in_ok-walk.ensures.0, (here, stands))
 
 pub loop-p-preserved : goal.loop-p-preserved
 loop-p-preserved g c =
@@ -24,4 +24,7 @@ loop-p-preserved g c =
 pub returns : goal.returns
 returns g c =
     let past = over g.K.Amount.width g.K.Amount.reading c.args.jobs.now c.args.n c.args.line.now c.loop-p.p-iterator c.next.new.self c.loop-p.invariant.0 c.loop-p.invariant.2 c.in-None.ensures.steps in
-    (c.in_ok-items.ensures.0, λ h. omega (arith, past, h, c.loop-p.invariant.3 h))
+    (c.in_ok-walk.ensures.0, λ h. omega (arith, past, h, c.loop-p.invariant.3 h))
+
+pub returns-then-position-eq0 : goal.returns-then-position-eq0
+returns-then-position-eq0 g c = (c.in_ok-walk.ensures.0, λ h. grind (arith, h, c.then-position-eq0.either))

@@ -1,4 +1,4 @@
-use Rattle.std.proofs.Common.{◌≡◌, arith}
+use Rattle.std.proofs.Common.{◌≡◌, inl, inr, arith}
 use Rattle.trees.specs.Sums.{In}
 use Rattle.peaks.specs.Stood.{Stands}
 use Rattle.peaks.proofs.Walked.{stepped, on_still, over}
@@ -27,4 +27,10 @@ returns g c =
     (c.in_ok-walk.ensures.0, λ h. omega (arith, past, h, c.loop-p.invariant.3 h))
 
 pub returns-then-position-eq0 : goal.returns-then-position-eq0
-returns-then-position-eq0 g c = (c.in_ok-walk.ensures.0, λ h. grind (arith, h, c.then-position-eq0.either))
+returns-then-position-eq0 g c = (
+  c.in_ok-walk.ensures.0,
+  λ h. elim c.then-position-eq0.either [
+    | inl none ↦ omega (arith, h.0, none)
+    | inr past ↦ omega (arith, h.1, past.1)
+  ],
+)

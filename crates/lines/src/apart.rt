@@ -66,7 +66,7 @@ fn gather(parents: &[u32], row: &[u32], spans: &mut [Span])
     for entry in row {
         let job = *entry as usize;
         let parent = parents[job] as usize;
-        // one field at a time, as they were written: reading both at once waits for the writes
+        // one field at a time, as they were written: both at once took half as long again
         let whole = Span {
             size: spans[job].size,
             low: spans[job].low,
